@@ -77,7 +77,7 @@ def function_of(text, name):
 
 
 def check_command_line():
-    rows = text_of("crates/command_line/src/lib.rt")
+    rows = text_of("crates/exchange_main/src/command_line.rt")
     options = re.findall(r'"([a-z-]+)",\s*Taken::(?:Value|OneOf|Number|Flag)\b', rows)
     commands = re.findall(r'\(\s*"(\w+)",', re.search(r"const COMMANDS.*?\];", rows, re.S).group())
     page, manual = text_of("docs/CLI.md"), text_of("contrib/exchange_main.1")
@@ -90,7 +90,7 @@ def check_command_line():
     names_agree("docs/CLI.md, commands", [it.split(" ")[0] for it in first_cells(table) if not it.startswith("--")], commands + ["help"])
     synopsis = re.sub(r"\.Cm (call|hangup|new|upgrade)\n", "", manual.split(".Sh DESCRIPTION")[0])
     names_agree("exchange_main.1, commands", re.findall(r"^\.Cm ([a-z]+)$", synopsis, re.M), commands + ["help"])
-    orders = re.findall(r'^ *"(\w+)" => Some\(Order|word\.as_str\(\) == "(\w+)"', text_of("crates/control_client/src/order.rt"), re.M)
+    orders = re.findall(r'^ *"(\w+)" => Some\(ControlOrder|word\.as_str\(\) == "(\w+)"', text_of("crates/control_client/src/order.rt"), re.M)
     names_agree("docs/CLI.md, orders", [it.split(" ")[0] for it in first_cells(section_of(page, "## ctl"))], [a or b for a, b in orders])
 
 
@@ -139,7 +139,7 @@ def check_plan_lines():
 
 
 def check_http():
-    page, desk = text_of("docs/HTTP.md"), sources("service_desk")
+    page, desk = text_of("docs/HTTP.md"), sources("service_api")
     requests = re.search(r"const TABLE.*?;", desk, re.S).group()
     table = section_of(page, "## Requests").split("\n###")[0]
     names_agree("docs/HTTP.md, requests", first_cells(table), re.findall(r'\\"((?:GET|POST|DELETE) [^"\\]*)\\"', requests))
@@ -168,11 +168,11 @@ def check_refusals():
     for name in ("refusal_name", "rejection_name", "call_error_name", "order_error_name"):
         wanted |= set(re.findall(r'=> "(\w+)"', function_of(names, name)))
     wanted |= {it.split(" ")[0] for it in re.findall(r'(?:write_str\(|write!\(f, )"([^"]+)"', plan_error)}
-    wanted |= set(re.findall(r'Some\("(\w+)"\)', function_of(sources("worker_seats"), "service_error_name")))
+    wanted |= set(re.findall(r'Some\("(\w+)"\)', function_of(sources("worker_setup"), "service_error_name")))
     wanted |= set(re.findall(r'NotBound::of\(&error, "(\w+)"\)', sources("control_server")))
     wanted |= set(re.findall(r'"refused (\w+)', sources("exchange_main", "exchange_commands")))
-    wanted |= set(re.findall(r'Status::\w+(?:\(\w+\))?, "(\w+)"\)', sources("control_server", "service_desk")))
-    wanted |= set(re.findall(r'=> "(\w+)"', function_of(sources("service_desk"), "fault_name"))) | {"Draining"}
+    wanted |= set(re.findall(r'Status::\w+(?:\(\w+\))?, "(\w+)"\)', sources("control_server", "service_api")))
+    wanted |= set(re.findall(r'=> "(\w+)"', function_of(sources("service_api"), "fault_name"))) | {"Draining"}
     page = text_of("docs/REFUSALS.md").split("\n## ", 1)[1]
     names_agree("docs/REFUSALS.md", [it.split(" ")[0] for it in first_cells(page)], wanted)
     manual = text_of("contrib/exchange_main.plan.5").split(".Sh DIAGNOSTICS")[1]
@@ -185,7 +185,7 @@ def check_metrics():
     page = text_of("docs/METRICS.md")
     metrics = section_of(page, "## Metrics")
     found = [re.sub(r"\{.*", "", it) for it in first_cells(metrics)]
-    names_agree("docs/METRICS.md, metrics", found, re.findall(r'"(iax_\w+)"', sources("service_desk", "service_report")))
+    names_agree("docs/METRICS.md, metrics", found, re.findall(r'"(iax_\w+)"', sources("service_api", "service_state")))
     log = section_of(page, "## The log")
     faults = []
     code = sources("service_log")
@@ -201,7 +201,7 @@ def check_metrics():
 
 
 def check_scripts_and_records():
-    lines = re.search(r"const COMMANDS.*?\];", text_of("crates/script_lines/src/line.rt"), re.S).group()
+    lines = re.search(r"const COMMANDS.*?\];", text_of("crates/exchange_commands/src/script_line.rt"), re.S).group()
     page = text_of("docs/SCRIPT.md")
     in_page = [it.split(" ")[0] for it in first_cells(section_of(page, "## Lines")) if it != "#"]
     names_agree("docs/SCRIPT.md, lines", in_page, re.findall(r'b"(\w+)"', lines))
@@ -211,7 +211,7 @@ def check_scripts_and_records():
     text = text_of("crates/call_records/src/columns.rt")
     endings = re.findall(r'=> "(\w+)"', function_of(text, "ending_name") + function_of(text, "failure_name"))
     names_agree("docs/RECORDS.md, endings", first_cells(section_of(page, "## How a call ends")), endings)
-    reasons = re.findall(r'"(\w+)"', text_of("crates/service_watch/src/reasons.rt"))
+    reasons = re.findall(r'"(\w+)"', text_of("crates/service_state/src/reasons.rt"))
     names_agree("docs/RECORDS.md, reasons", first_cells(section_of(page, "## Why a call failed")), reasons)
     stages = re.findall(r'=> "(\w+)"', function_of(text_of("crates/exchange_report/src/names.rt"), "stage_name"))
     names_agree("docs/GLOSSARY.md, stages", first_cells(section_of(text_of("docs/GLOSSARY.md"), "## Stage")), stages)

@@ -42,7 +42,7 @@ def last_line(text, indent, at):
 
 def function_around(text, name, at):
     """Returns the place of the function of this name around a place; None if there is none."""
-    head = rf"^( *)(?:#\[.*\n\1)*{VISIBILITY}fn {name}\b"
+    head = rf"^( *)(?:#\[[^\]]*\]\n\1)*{VISIBILITY}fn {name}\b"
     # A trait also declares functions without a body, so the last one before the place is the right one.
     for found in reversed([*re.finditer(head, text, re.M)]):
         end = last_line(text, found[1], found.start())
@@ -115,7 +115,7 @@ def statements_in(text, module, modules):
 
 def tactic_attribute(text):
     """Returns the match of the `tactic` attribute of the function at the beginning of a text; None if it has none."""
-    return re.search(r"^ *#\[tactic\((.*)\)\]\n", text[: text.index("fn ")], re.M)
+    return re.search(r"^ *#\[tactic\(([^\]]*)\)\]\n", text[: text.index("fn ")], re.M)
 
 
 def paths_after(word, attribute):

@@ -16,4 +16,5 @@ call_token tokens period = encode_lower (take 16 (sha256 (token_text tokens peri
 -- the token of the period that a moment belongs to, in milliseconds, or of the period before
 abbrev pub is_given : CallTokens → ℕ → List ℕ → Bool
 is_given tokens now text =
-    bytes_eq text (call_token tokens (now / 5000)) || (nat_lt 0 (now / 5000) && bytes_eq text (call_token tokens (now / 5000 - 1)))
+    bytes_eq text (call_token tokens (now / 5000)) ||
+    (nat_lt 0 (now / 5000) && bytes_eq text (call_token tokens (now / 5000 - 1)))

@@ -1,5 +1,7 @@
 -- The properties that a change of the book keeps.
-use Rattle.std.proofs.Common.{◌≡◌, ◌≢◌, ℕ, zero, suc, ◌+◌, ◌<◌, List, [], ◌∷◌, length, get_or, Option, Some, None, IsSome, Bool, true, false, nat_cmp, refl, sym, ap, subst, ◌∙◌, arith, inl, inr, ◌⊎◌, is_some, ◌==◌, ◌^◌, ◌-◌, map, ◌++◌, option_to_list, length-set}
+use Rattle.std.proofs.Common.{◌≡◌, ◌≢◌, ℕ, zero, suc, ◌+◌, ◌<◌, List, [], ◌∷◌, length, get_or, Option, Some, None, IsSome, Bool}
+use Rattle.std.proofs.Common.{true, false, nat_cmp, refl, sym, ap, subst, ◌∙◌, arith, inl, inr, ◌⊎◌, is_some, ◌==◌, ◌^◌, ◌-◌, map}
+use Rattle.std.proofs.Common.{◌++◌, option_to_list, length-set}
 use Rattle.std.proofs.Math.ListN.{set}
 use Rattle.std.proofs.lemmas.Bool.{cases_Bool, true≢false}
 use Rattle.std.proofs.lemmas.List.{get_or-set_same, get_or-set_other}
@@ -9,7 +11,8 @@ use Rattle.std.specs.List.{AllByRecursion, Contains}
 use Rattle.std.specs.Ordering.{eq_by_cmp}
 use Rattle.std.specs.FinMap.{FinMap, get, insert, get-insert}
 use Rattle.call_book.specs.declared.leg_name.LegName.{LegName}
-use Rattle.call_book.specs.Book.{Book, IsBook, AreFree, IsNumberOf, free_of, after_reserve, bridged, is_name_in, has_name, total_of}
+use Rattle.call_book.specs.Book.{Book, IsBook, AreFree, IsNumberOf, free_of, after_reserve, bridged, is_name_in, has_name}
+use Rattle.call_book.specs.Book.{total_of}
 use Rattle.call_book.proofs.TableLaws.{eq_apart, eq_itself, same_from_eq}
 use Rattle.call_book.proofs.RangeLaws.{ranges_apart, number_within, peer_within}
 
@@ -21,11 +24,18 @@ pub get-insert_apart : {A : Type 0} (m : FinMap nat_cmp A) (k : ℕ) (v : A) (q 
 get-insert_apart m k v q ne = get-insert nat_cmp_total m k v q ∙ rw (eq_apart q k ne) refl
 
 -- a number that no leg has stays free when another gets a name
-free_kept : (counts : List ℕ) (names : FinMap nat_cmp LegName) (p : ℕ) (ns : List ℕ) (k : ℕ) (v : LegName) → AllByRecursion (λ m. m ≢ k) ns → AreFree counts names p ns → AreFree counts (insert names k v) p ns
+free_kept : (counts : List ℕ) (names : FinMap nat_cmp LegName) (p : ℕ) (ns : List ℕ) (k : ℕ) (v : LegName)
+    → AllByRecursion (λ m. m ≢ k) ns → AreFree counts names p ns → AreFree counts (insert names k v) p ns
 free_kept counts names p [] k v ne h = tt
-free_kept counts names p (n ∷ ns) k v ne h = (h.0, get-insert_apart names k v n ne.0 ∙ h.1, h.2, free_kept counts names p ns k v ne.1 h.3)
+free_kept counts names p (n ∷ ns) k v ne h = (
+  h.0,
+  get-insert_apart names k v n ne.0 ∙ h.1,
+  h.2,
+  free_kept counts names p ns k v ne.1 h.3,
+)
 
-all_apart : (counts : List ℕ) (names : FinMap nat_cmp LegName) (p q : ℕ) (ns : List ℕ) (k : ℕ) → p ≢ q → IsNumberOf counts q k → AreFree counts names p ns → AllByRecursion (λ m. m ≢ k) ns
+all_apart : (counts : List ℕ) (names : FinMap nat_cmp LegName) (p q : ℕ) (ns : List ℕ) (k : ℕ) → p ≢ q → IsNumberOf counts q k
+    → AreFree counts names p ns → AllByRecursion (λ m. m ≢ k) ns
 all_apart counts names p q [] k ne at h = tt
 all_apart counts names p q (n ∷ ns) k ne at h = (ranges_apart counts p q n k ne h.0 at, all_apart counts names p q ns k ne at h.3)
 
@@ -35,7 +45,8 @@ contained_behind n k ns ne (zero, lt, e) = absurd (ne (sym e))
 contained_behind n k ns ne (suc i, lt, e) = (i, omega arith, e)
 
 -- the entries of a map after an insert
-insert_cases : {A : Type 0} (m : FinMap nat_cmp A) (k : ℕ) (v : A) (q : ℕ) (a : A) → get (insert m k v) q ≡ Some a → ((q ≡ k) × (v ≡ a)) ⊎ ((q ≢ k) × (get m q ≡ Some a))
+insert_cases : {A : Type 0} (m : FinMap nat_cmp A) (k : ℕ) (v : A) (q : ℕ) (a : A) → get (insert m k v) q ≡ Some a
+    → ((q ≡ k) × (v ≡ a)) ⊎ ((q ≢ k) × (get m q ≡ Some a))
 insert_cases m k v q a e =
     elim (cases_Bool (eq_by_cmp nat_cmp q k)) [
       | inl same ↦
@@ -51,8 +62,13 @@ insert_cases m k v q a e =
 pub named_apart : (names : FinMap nat_cmp LegName) (q n : ℕ) → IsSome (get names q) → get names n ≡ None → q ≢ n
 named_apart names q n h none = λ e. true≢false (sym h ∙ ap is_some (ap (get names) e ∙ none))
 
-pub reserve_keeps : (book : Book) (peer n : ℕ) (rest : List ℕ) → peer < length book.free → free_of book peer ≡ n ∷ rest → IsBook book
-    → IsBook (record book { names = insert book.names n (record { peer = peer; number = n; serial = book.next }); free = set book.free peer rest; next = book.next + 1 })
+pub reserve_keeps : (book : Book) (peer n : ℕ) (rest : List ℕ) → peer < length book.free → free_of book peer ≡ n ∷ rest
+    → IsBook book
+    → IsBook (record book {
+      names = insert book.names n (record { peer = peer; number = n; serial = book.next });
+      free = set book.free peer rest;
+      next = book.next + 1;
+    })
 reserve_keeps book peer n rest lt front h =
     let name : LegName = record { peer = peer; number = n; serial = book.next } in
     let first = rw front at (h.free peer) in
@@ -76,16 +92,23 @@ reserve_keeps book peer n rest lt front h =
       paired = λ k b e.
           let old = h.paired k b e in
           let there : b.number ≢ n = named_apart book.names b.number n (rw old.1 refl) first.1 in
-          let here : k ≢ n = named_apart book.names k n old.2 first.1 in
-          (old.0, get-insert_apart book.names n name b.number there ∙ old.1, rw (get-insert_apart book.names n name k here) old.2, old.3 ∙ sym (get-insert_apart book.names n name k here));
+          let here : k ≢ n = named_apart book.names k n old.2 first.1 in (
+            old.0,
+            get-insert_apart book.names n name b.number there ∙ old.1,
+            rw (get-insert_apart book.names n name k here) old.2,
+            old.3 ∙ sym (get-insert_apart book.names n name k here),
+          );
       free = λ q. elim (cases_Bool (eq_by_cmp nat_cmp q peer)) [
-        | inl same ↦ rw (same_from_eq q peer same, get_or-set_same book.free peer rest [] lt) (free_kept book.counts book.names peer rest n name first.2 first.3)
+        | inl same ↦ rw (same_from_eq q peer same, get_or-set_same book.free peer rest [] lt)
+            (free_kept book.counts book.names peer rest n name first.2 first.3)
         | inr other ↦
             let ne : q ≢ peer = λ x. true≢false (sym (eq_itself peer) ∙ ap (λ j. eq_by_cmp nat_cmp j peer) (sym x) ∙ other) in
-            rw (get_or-set_other book.free peer q rest [] ne) (free_kept book.counts book.names q (free_of book q) n name (all_apart book.counts book.names q peer (free_of book q) n ne first.0 (h.free q)) (h.free q))
+            rw (get_or-set_other book.free peer q rest [] ne) (free_kept book.counts book.names q (free_of book q) n name
+            (all_apart book.counts book.names q peer (free_of book q) n ne first.0 (h.free q)) (h.free q))
       ];
       every = λ q k within none.
-          let ne : k ≢ n = λ e. let both : None ≡ Some name = sym none ∙ ap (get (insert book.names n name)) e ∙ get-insert_here book.names n name in cc in
+          let ne : k ≢ n = λ e. let both : None ≡ Some name = sym none ∙ ap (get (insert book.names n name)) e ∙ get-insert_here
+          book.names n name in cc in
           let before : get book.names k ≡ None = sym (get-insert_apart book.names n name k ne) ∙ none in
           let listed : Contains (free_of book q) k = h.every q k within before in
           elim (cases_Bool (eq_by_cmp nat_cmp q peer)) [
@@ -94,35 +117,46 @@ reserve_keeps book peer n rest lt front h =
                 let there : Contains (n ∷ rest) k = subst (λ ns. Contains ns k) (ap (free_of book) at ∙ front) listed in
                 rw (at, get_or-set_same book.free peer rest [] lt) (contained_behind n k rest ne there)
             | inr other ↦
-                let apart : q ≢ peer = λ x. true≢false (sym (eq_itself peer) ∙ ap (λ j. eq_by_cmp nat_cmp j peer) (sym x) ∙ other) in
+                let apart : q ≢ peer = λ x. true≢false (sym (eq_itself peer) ∙ ap (λ j. eq_by_cmp nat_cmp j peer) (sym x)
+                ∙ other) in
                 rw (get_or-set_other book.free peer q rest [] apart) listed
           ];
     }
 
 -- an element of a list, seen by f
-pub get_or-map_read : {A B : Type 0} (f : A → B) (xs : List A) (i : ℕ) (x : A) (d : B) → i < length xs → x ≡ get_or xs i x → get_or (map f xs) i d ≡ f x
+pub get_or-map_read : {A B : Type 0} (f : A → B) (xs : List A) (i : ℕ) (x : A) (d : B) → i < length xs → x ≡ get_or xs i x
+    → get_or (map f xs) i d ≡ f x
 get_or-map_read f [] i x d lt e = absurd (omega arith)
 get_or-map_read f (y ∷ ys) zero x d lt e = ap f (sym e)
 get_or-map_read f (y ∷ ys) (suc i) x d lt e = get_or-map_read f ys i x d (omega arith) e
 
-pub after_reserve_is : (book : Book) (peer n : ℕ) (rest : List ℕ) → (book.next == 2 ^ 64 - 1) ≡ false → free_of book peer ≡ n ∷ rest
-    → record book { names = insert book.names n (record { peer = peer; number = n; serial = book.next }); free = set book.free peer rest; next = book.next + 1 } ≡ after_reserve book peer
+pub after_reserve_is : (book : Book) (peer n : ℕ) (rest : List ℕ) → (book.next == 2 ^ 64 - 1) ≡ false
+    → free_of book peer ≡ n ∷ rest
+    → record book {
+      names = insert book.names n (record { peer = peer; number = n; serial = book.next });
+      free = set book.free peer rest;
+      next = book.next + 1;
+    } ≡ after_reserve book peer
 after_reserve_is book peer n rest e front = rw (e, front) refl
 
 pub front_is : {Q : Type 0} (items : Q → List ℕ) (queues : List Q) (place peer n : ℕ) (q : Q) (o : Option ℕ) (rest : List ℕ)
-    → place ≡ peer → place < length queues → q ≡ get_or queues place q → items q ≡ option_to_list o ++ rest → o ≡ Some n → get_or (map items queues) peer [] ≡ n ∷ rest
+    → place ≡ peer → place < length queues → q ≡ get_or queues place q → items q ≡ option_to_list o ++ rest → o ≡ Some n
+    → get_or (map items queues) peer [] ≡ n ∷ rest
 front_is items queues place peer n q o rest there lt at popped some =
-    ap (λ i. get_or (map items queues) i []) (sym there) ∙ get_or-map_read items queues place q [] lt at ∙ popped ∙ ap (λ x. option_to_list x ++ rest) some
+    ap (λ i. get_or (map items queues) i []) (sym there) ∙ get_or-map_read items queues place q [] lt at ∙ popped
+    ∙ ap (λ x. option_to_list x ++ rest) some
 
 pub not_last : (n : ℕ) → (n ≡ 18446744073709551615 → ⊥) → (n == 2 ^ 64 - 1) ≡ false
 not_last n h = grind (arith, nat_tests)
 
 -- partners, once two names without one are bridged
-pub bridge_keeps : (book : Book) (a b : LegName) → a.number ≢ b.number → get book.names a.number ≡ Some a → get book.names b.number ≡ Some b
+pub bridge_keeps : (book : Book) (a b : LegName) → a.number ≢ b.number → get book.names a.number ≡ Some a
+    → get book.names b.number ≡ Some b
     → get book.partners a.number ≡ None → get book.partners b.number ≡ None → IsBook book → IsBook (bridged book a b)
 bridge_keeps book a b ne has_a has_b free_a free_b h =
     let with_a = insert book.partners a.number b in
-    let at_a : get (insert with_a b.number a) a.number ≡ Some b = get-insert_apart with_a b.number a a.number ne ∙ get-insert_here book.partners a.number b in
+    let at_a : get (insert with_a b.number a) a.number ≡ Some b = get-insert_apart with_a b.number a a.number ne ∙ get-insert_here
+    book.partners a.number b in
     let at_b : get (insert with_a b.number a) b.number ≡ Some a = get-insert_here with_a b.number a in
     record {
       limit = h.limit;
@@ -139,8 +173,13 @@ bridge_keeps book a b ne has_a has_b free_a free_b h =
               let old = h.paired n c v.1 in
               let some : IsSome (get book.partners c.number) = rw old.3 old.2 in
               let not_a : c.number ≢ a.number = named_apart book.partners c.number a.number some free_a in
-              let not_b : c.number ≢ b.number = named_apart book.partners c.number b.number some free_b in
-              (old.0, old.1, old.2, get-insert_apart with_a b.number a c.number not_b ∙ get-insert_apart book.partners a.number b c.number not_a ∙ old.3)
+              let not_b : c.number ≢ b.number = named_apart book.partners c.number b.number some free_b in (
+                old.0,
+                old.1,
+                old.2,
+                get-insert_apart with_a b.number a c.number not_b ∙ get-insert_apart book.partners a.number b
+                    c.number not_a ∙ old.3,
+              )
         ]
       ];
     }
@@ -155,7 +194,8 @@ name_found (Some found) name h =
     λ i. Some (record { peer = p i; number = q i; serial = r i })
 
 -- two different names of the book are at different numbers
-pub numbers_apart : (book : Book) (a b : LegName) → (a ≡ b → ⊥) → get book.names a.number ≡ Some a → get book.names b.number ≡ Some b → a.number ≢ b.number
+pub numbers_apart : (book : Book) (a b : LegName) → (a ≡ b → ⊥) → get book.names a.number ≡ Some a
+    → get book.names b.number ≡ Some b → a.number ≢ b.number
 numbers_apart book a b ne has_a has_b = λ e.
     let same : Some a ≡ Some b = sym has_a ∙ ap (get book.names) e ∙ has_b in
     ne (cc)
@@ -164,7 +204,8 @@ pub none_from : {A : Type 0} (o : Option A) → is_some o ≡ false → o ≡ No
 none_from None h = refl
 none_from (Some x) h = cc
 
-pub place_within : (book : Book) (a : LegName) → IsBook book → get book.names a.number ≡ Some a → a.number < total_of book.counts + 1
+pub place_within : (book : Book) (a : LegName) → IsBook book → get book.names a.number ≡ Some a → a.number < total_of book.counts
+    + 1
 place_within book a h at = number_within book.counts a.peer a.number (h.placed a.number a at).1
 
 -- the place of a name of the book
@@ -173,8 +214,13 @@ pub record Stands (book : Book) (name : LegName) : Type 0 where
   pub place : name.number < total_of book.counts + 1
   pub peer : name.peer < length book.free
 
-pub stands : (book old : Book) (name : LegName) (found : Bool) → book ≡ old → IsBook book → found ≡ has_name old name → found ≡ true → Stands book name
+pub stands : (book old : Book) (name : LegName) (found : Bool) → book ≡ old → IsBook book → found ≡ has_name old name
+    → found ≡ true → Stands book name
 stands book old name found same sound is there =
     let known : has_name book name ≡ true = subst (λ b. has_name b name ≡ true) (sym same) (sym is ∙ there) in
     let has : get book.names name.number ≡ Some name = name_found (get book.names name.number) name known in
-    record { has = has; place = place_within book name sound has; peer = rw sound.peers (peer_within book.counts name.peer name.number (sound.placed name.number name has).1) }
+    record {
+      has = has;
+      place = place_within book name sound has;
+      peer = rw sound.peers (peer_within book.counts name.peer name.number (sound.placed name.number name has).1);
+    }

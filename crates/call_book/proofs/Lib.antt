@@ -4,3 +4,4 @@ mod BookLaws
 mod FreeLaws
 pub mod NameLaws
 pub mod Changes
+pub mod Partners

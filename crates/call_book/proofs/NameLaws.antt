@@ -1,5 +1,7 @@
 -- The names of a book: when two are the same, and how an insert and a removal change them.
-use Rattle.std.proofs.Common.{◌≡◌, ◌≢◌, ℕ, zero, suc, ◌+◌, ◌<◌, ◌≤◌, List, [], ◌∷◌, ◌++◌, length, get_or, Option, Some, None, IsSome, Bool, true, false, cond, nat_cmp, refl, sym, ap, subst, ◌∙◌, arith, inl, inr, ◌⊎◌, is_some, ◌==◌, ◌^◌, ◌-◌, ◌&&◌, length-set, map}
+use Rattle.std.proofs.Common.{◌≡◌, ◌≢◌, ℕ, zero, suc, ◌+◌, ◌<◌, ◌≤◌, List, [], ◌∷◌, ◌++◌, length, get_or, Option, Some, None}
+use Rattle.std.proofs.Common.{IsSome, Bool, true, false, cond, nat_cmp, refl, sym, ap, subst, ◌∙◌, arith, inl, inr, ◌⊎◌, is_some}
+use Rattle.std.proofs.Common.{◌==◌, ◌^◌, ◌-◌, ◌&&◌, length-set, map}
 use Rattle.std.specs.Prelude.{Result, Ok, Err, not, IfSome}
 use Rattle.std.proofs.Math.ListN.{set}
 use Rattle.std.proofs.lemmas.Bool.{cases_Bool, true≢false}
@@ -14,9 +16,11 @@ use Rattle.std.specs.FinMap.{FinMap, get, insert, remove, get-remove}
 use Rattle.call_book.specs.declared.leg_name.LegName.{LegName}
 use Rattle.call_book.specs.declared.errors.BridgeError.{BridgeError}
 use Rattle.call_book.specs.declared.errors.BridgeError.TheVariants.{Same, Stale, Bridged}
-use Rattle.call_book.specs.Book.{Book, IsBook, AreFree, IsNumberOf, free_of, after_reserve, reserve_answer, next_name, bridged, bridge_answer, released, unbridged, is_name_in, is_same, has_name, partner_of}
+use Rattle.call_book.specs.Book.{Book, IsBook, AreFree, IsNumberOf, free_of, after_reserve, reserve_answer, next_name, bridged}
+use Rattle.call_book.specs.Book.{bridge_answer, released, unbridged, is_name_in, is_same, has_name, partner_of}
 use Rattle.call_book.proofs.TableLaws.{eq_apart, eq_itself, same_from_eq}
-use Rattle.call_book.proofs.BookLaws.{get_or-map_read, get-insert_here, get-insert_apart, reserve_keeps, bridge_keeps, name_found, numbers_apart, none_from, named_apart}
+use Rattle.call_book.proofs.BookLaws.{get_or-map_read, get-insert_here, get-insert_apart, reserve_keeps, bridge_keeps, name_found}
+use Rattle.call_book.proofs.BookLaws.{numbers_apart, none_from, named_apart}
 
 -- names
 
@@ -38,7 +42,8 @@ get-remove_apart m k q ne = get-remove nat_cmp_total m k q ∙ rw (eq_apart q k 
 pub apart_from_eq : (q k : ℕ) → eq_by_cmp nat_cmp q k ≡ false → q ≢ k
 apart_from_eq q k other = λ x. true≢false (sym (eq_itself k) ∙ ap (λ j. eq_by_cmp nat_cmp j k) (sym x) ∙ other)
 
-pub remove_cases : {A : Type 0} (m : FinMap nat_cmp A) (k q : ℕ) (a : A) → get (remove m k) q ≡ Some a → (q ≢ k) × (get m q ≡ Some a)
+pub remove_cases : {A : Type 0} (m : FinMap nat_cmp A) (k q : ℕ) (a : A) → get (remove m k) q ≡ Some a → (q ≢ k) ×
+    (get m q ≡ Some a)
 remove_cases m k q a e =
     elim (cases_Bool (eq_by_cmp nat_cmp q k)) [
       | inl same ↦
@@ -61,7 +66,8 @@ abbrev pub bit : Bool → ℕ
 bit b = cond b 1 0
 
 -- the map's answer, taken apart
-pub name_at_number : (book : Book) (name : LegName) → IsBook book → (o : Option LegName) → get book.names name.number ≡ o → is_name_in o name ≡ true → get book.names name.number ≡ Some name
+pub name_at_number : (book : Book) (name : LegName) → IsBook book → (o : Option LegName) → get book.names name.number ≡ o
+    → is_name_in o name ≡ true → get book.names name.number ≡ Some name
 name_at_number book name h o is found = is ∙ name_found o name found
 
 pub has_name_is : (book : Book) (name : LegName) → has_name book name ≡ true → get book.names name.number ≡ Some name
@@ -82,14 +88,17 @@ has_gained names v none x =
     elim (cases_Bool (eq_by_cmp nat_cmp x.number v.number)) [
       | inl same ↦
           let at : x.number ≡ v.number = same_from_eq x.number v.number same in
-          let now : get (insert names v.number v) x.number ≡ Some v = ap (get (insert names v.number v)) at ∙ get-insert_here names v.number v in
+          let now : get (insert names v.number v) x.number ≡ Some v = ap (get (insert names v.number v)) at ∙ get-insert_here
+          names v.number v in
           let before : get names x.number ≡ None = ap (get names) at ∙ none in
-          let gained : bit (is_name_in (get (insert names v.number v) x.number) x) ≡ bit (is_same v x) = ap (λ o. bit (is_name_in o x)) now in
+          let gained : bit (is_name_in (get (insert names v.number v) x.number) x) ≡ bit (is_same v x) =
+          ap (λ o. bit (is_name_in o x)) now in
           let nothing : bit (is_name_in (get names x.number) x) ≡ 0 = ap (λ o. bit (is_name_in o x)) before in
           omega arith
       | inr other ↦
           let ne : x.number ≢ v.number = apart_from_eq x.number v.number other in
-          let now : bit (is_name_in (get (insert names v.number v) x.number) x) ≡ bit (is_name_in (get names x.number) x) = ap (λ o. bit (is_name_in o x)) (get-insert_apart names v.number v x.number ne) in
+          let now : bit (is_name_in (get (insert names v.number v) x.number) x) ≡ bit (is_name_in (get names x.number) x) =
+          ap (λ o. bit (is_name_in o x)) (get-insert_apart names v.number v x.number ne) in
           let differs : bit (is_same v x) ≡ 0 = ap bit (is_same_apart v x (λ e. ne (sym e))) in
           omega arith
     ]
@@ -100,12 +109,15 @@ has_lost names v some x =
     elim (cases_Bool (eq_by_cmp nat_cmp x.number v.number)) [
       | inl same ↦
           let at : x.number ≡ v.number = same_from_eq x.number v.number same in
-          let before : bit (is_name_in (get names x.number) x) ≡ bit (is_same v x) = ap (λ o. bit (is_name_in o x)) (ap (get names) at ∙ some) in
-          let now : bit (is_name_in (get (remove names v.number) x.number) x) ≡ 0 = ap (λ o. bit (is_name_in o x)) (ap (get (remove names v.number)) at ∙ get-remove_here names v.number) in
+          let before : bit (is_name_in (get names x.number) x) ≡ bit (is_same v x) =
+          ap (λ o. bit (is_name_in o x)) (ap (get names) at ∙ some) in
+          let now : bit (is_name_in (get (remove names v.number) x.number) x) ≡ 0 =
+          ap (λ o. bit (is_name_in o x)) (ap (get (remove names v.number)) at ∙ get-remove_here names v.number) in
           omega arith
       | inr other ↦
           let ne : x.number ≢ v.number = apart_from_eq x.number v.number other in
-          let now : bit (is_name_in (get (remove names v.number) x.number) x) ≡ bit (is_name_in (get names x.number) x) = ap (λ o. bit (is_name_in o x)) (get-remove_apart names v.number x.number ne) in
+          let now : bit (is_name_in (get (remove names v.number) x.number) x) ≡ bit (is_name_in (get names x.number) x) =
+          ap (λ o. bit (is_name_in o x)) (get-remove_apart names v.number x.number ne) in
           let differs : bit (is_same v x) ≡ 0 = ap bit (is_same_apart v x (λ e. ne (sym e))) in
           omega arith
     ]

@@ -5,7 +5,8 @@ use Rattle.call_book.specs.Ranges.{IsNumberOf, first_number, total_of}
 first_above : (counts : List ℕ) (p : ℕ) → 1 ≤ first_number counts p
 first_above [] p = omega arith
 first_above (c ∷ cs) zero = omega arith
-first_above (c ∷ cs) (suc p) = let more : 1 ≤ first_number cs p = first_above cs p in let here : 1 ≤ c + first_number cs p = omega arith in here
+first_above (c ∷ cs) (suc p) = let more : 1 ≤ first_number cs p = first_above cs p in let here : 1 ≤ c + first_number cs p =
+    omega arith in here
 
 first_past : (counts : List ℕ) (p q : ℕ) → p < q → first_number counts p + get_or counts p 0 ≤ first_number counts q
 first_past [] p q h = omega arith
@@ -48,7 +49,8 @@ total-push [] count = omega arith
 total-push (c ∷ cs) count = let rest = total-push cs count in omega (arith, rest)
 
 -- the sum over peers with at most this number of numbers each
-pub total_within : (counts : List ℕ) (most : ℕ) → ((i : ℕ) → i < length counts → get_or counts i 0 ≤ most) → total_of counts ≤ most * length counts
+pub total_within : (counts : List ℕ) (most : ℕ) → ((i : ℕ) → i < length counts → get_or counts i 0 ≤ most)
+    → total_of counts ≤ most * length counts
 total_within [] most h = omega arith
 total_within (c ∷ cs) most h =
     let rest : total_of cs ≤ most * length cs = total_within cs most (λ i lt. h (suc i) (omega arith)) in

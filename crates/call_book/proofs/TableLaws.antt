@@ -1,12 +1,15 @@
 -- An array and the map that it represents.
-use Rattle.std.proofs.Common.{◌≡◌, ◌≢◌, ℕ, zero, suc, ◌+◌, ◌<◌, ◌≤◌, List, [], ◌∷◌, length, get_or, Option, Some, None, true, false, cond, Ordering, Less, Equal, Greater, nat_cmp, is_eq, refl, sym, ap, ◌∙◌, arith, inl, inr, length-set}
+use Rattle.std.proofs.Common.{◌≡◌, ◌≢◌, ℕ, zero, suc, ◌+◌, ◌<◌, ◌≤◌, List, [], ◌∷◌, length, get_or, Option, Some, None, true}
+use Rattle.std.proofs.Common.{false, cond, Ordering, Less, Equal, Greater, nat_cmp, is_eq, refl, sym, ap, ◌∙◌, arith, inl, inr}
+use Rattle.std.proofs.Common.{length-set}
 use Rattle.std.proofs.Math.ListN.{set, replicate}
 use Rattle.std.proofs.lemmas.Bool.{cases_Bool, true≢false}
 use Rattle.std.proofs.lemmas.List.{get_or-set_same, get_or-set_other, get_or_default, get_or_past}
 use Rattle.std.proofs.lemmas.Cmp.{nat_cmp_total}
 use Rattle.std.specs.Cmp.{tied_itself}
 use Rattle.std.specs.Ordering.{eq_by_cmp}
-use Rattle.std.specs.FinMap.{FinMap, find, empty, get, insert, remove, from_entries, get-from_entries, get-insert, get-remove, same_map, nat_cmp-IsAntisymmetric}
+use Rattle.std.specs.FinMap.{FinMap, find, empty, get, insert, remove, from_entries, get-from_entries, get-insert, get-remove}
+use Rattle.std.specs.FinMap.{same_map, nat_cmp-IsAntisymmetric}
 use Rattle.call_book.specs.Table.{Table, filled, table_of}
 use Rattle.call_book.specs.declared.leg_name.LegName.{LegName}
 
@@ -46,7 +49,8 @@ equal_from Greater h = cc
 pub same_from_eq : (x y : ℕ) → eq_by_cmp nat_cmp x y ≡ true → x ≡ y
 same_from_eq x y h = nat_cmp-IsAntisymmetric x y (equal_from (nat_cmp x y) h)
 
-get_at : {A : Type 0} (xs : List (Option A)) (k : ℕ) (x : Option A) (q : ℕ) → k < length xs → get_or (set xs k x) q None ≡ cond (eq_by_cmp nat_cmp q k) x (get_or xs q None)
+get_at : {A : Type 0} (xs : List (Option A)) (k : ℕ) (x : Option A) (q : ℕ) → k < length xs
+    → get_or (set xs k x) q None ≡ cond (eq_by_cmp nat_cmp q k) x (get_or xs q None)
 get_at xs k x q lt =
     elim (cases_Bool (eq_by_cmp nat_cmp q k)) [
       | inl same ↦
@@ -57,27 +61,38 @@ get_at xs k x q lt =
           rw other (get_or-set_other xs k q x None ne)
     ]
 
-pub table_of-set : {A : Type 0} (xs : List (Option A)) (k : ℕ) (x : A) → k < length xs → table_of (set xs k (Some x)) ≡ insert (table_of xs) k x
+pub table_of-set : {A : Type 0} (xs : List (Option A)) (k : ℕ) (x : A) → k < length xs
+    → table_of (set xs k (Some x)) ≡ insert (table_of xs) k x
 table_of-set xs k x lt = same_map nat_cmp_total nat_cmp-IsAntisymmetric _ _ (λ q.
-    get-table_of (set xs k (Some x)) q ∙ get_at xs k (Some x) q lt ∙ ap (cond (eq_by_cmp nat_cmp q k) (Some x)) (sym (get-table_of xs q)) ∙ sym (get-insert nat_cmp_total (table_of xs) k x q))
+    get-table_of (set xs k (Some x)) q ∙ get_at xs k (Some x) q lt ∙ ap (cond (eq_by_cmp nat_cmp q k) (Some x))
+    (sym (get-table_of xs q)) ∙ sym (get-insert nat_cmp_total (table_of xs) k x q))
 
-pub table_of-clear : {A : Type 0} (xs : List (Option A)) (k : ℕ) → k < length xs → table_of (set xs k None) ≡ remove (table_of xs) k
+pub table_of-clear : {A : Type 0} (xs : List (Option A)) (k : ℕ) → k < length xs → table_of (set xs k None) ≡ remove (table_of xs)
+    k
 table_of-clear xs k lt = same_map nat_cmp_total nat_cmp-IsAntisymmetric _ _ (λ q.
-    get-table_of (set xs k None) q ∙ get_at xs k None q lt ∙ ap (cond (eq_by_cmp nat_cmp q k) None) (sym (get-table_of xs q)) ∙ sym (get-remove nat_cmp_total (table_of xs) k q))
+    get-table_of (set xs k None) q ∙ get_at xs k None q lt ∙ ap (cond (eq_by_cmp nat_cmp q k) None) (sym (get-table_of xs q))
+    ∙ sym (get-remove nat_cmp_total (table_of xs) k q))
 
 -- the map's value, read from the array at an index
-pub get_read : {A : Type 0} (xs : List (Option A)) (m : FinMap nat_cmp A) (q i : ℕ) (x : Option A) → table_of xs ≡ m → i ≡ q → i < length xs → x ≡ get_or xs i x → x ≡ get m q
-get_read xs m q i x is at lt e = e ∙ get_or_default xs i x None lt ∙ sym (get-table_of xs i) ∙ ap (get (table_of xs)) at ∙ ap (λ n. get n q) is
+pub get_read : {A : Type 0} (xs : List (Option A)) (m : FinMap nat_cmp A) (q i : ℕ) (x : Option A) → table_of xs ≡ m → i ≡ q
+    → i < length xs → x ≡ get_or xs i x → x ≡ get m q
+get_read xs m q i x is at lt e = e ∙ get_or_default xs i x None lt ∙ sym (get-table_of xs i) ∙ ap (get (table_of xs)) at
+    ∙ ap (λ n. get n q) is
 
-pub get_past : {A : Type 0} (xs : List (Option A)) (m : FinMap nat_cmp A) (q i : ℕ) → table_of xs ≡ m → i ≡ q → length xs ≤ i → None ≡ get m q
-get_past xs m q i is at le = sym (get_or_past xs i None le) ∙ sym (get-table_of xs i) ∙ ap (get (table_of xs)) at ∙ ap (λ n. get n q) is
+pub get_past : {A : Type 0} (xs : List (Option A)) (m : FinMap nat_cmp A) (q i : ℕ) → table_of xs ≡ m → i ≡ q → length xs ≤ i
+    → None ≡ get m q
+get_past xs m q i is at le = sym (get_or_past xs i None le) ∙ sym (get-table_of xs i) ∙ ap (get (table_of xs)) at
+    ∙ ap (λ n. get n q) is
 
 -- an array and its table, after a write
-pub table_put : (xs : List (Option LegName)) (t : Table) (i number : ℕ) (name : LegName) → record { names = table_of xs; places = length xs } ≡ t → i ≡ number → i < length xs
-    → record { names = table_of (set xs i (Some name)); places = length (set xs i (Some name)) } ≡ record t { names = insert t.names number name }
+pub table_put : (xs : List (Option LegName)) (t : Table) (i number : ℕ) (name : LegName)
+    → record { names = table_of xs; places = length xs } ≡ t → i ≡ number → i < length xs
+    → record { names = table_of (set xs i (Some name)); places = length (set xs i (Some name)) } ≡ record t
+    { names = insert t.names number name }
 table_put xs t i number name is at lt = rw (table_of-set xs i name lt, length-set, at, ← is) refl
 
-pub table_clear : (xs : List (Option LegName)) (t : Table) (i number : ℕ) → record { names = table_of xs; places = length xs } ≡ t → i ≡ number → i < length xs
+pub table_clear : (xs : List (Option LegName)) (t : Table) (i number : ℕ) → record { names = table_of xs; places = length xs } ≡ t
+    → i ≡ number → i < length xs
     → record { names = table_of (set xs i None); places = length (set xs i None) } ≡ record t { names = remove t.names number }
 table_clear xs t i number is at lt = rw (table_of-clear xs i lt, length-set, at, ← is) refl
 

@@ -3,12 +3,14 @@ ghost use Rattle.std.specs.Option.{ForSome};
 ghost use Rattle.std.specs.Prelude.{◌≡◌, ◌<◌, ◌≤◌, ◌+◌, ◌^◌, ◌↔◌, All, length, Some, None, Ok, Err, IsTrue, IsErr, OnOk, OnErr};
 ghost use Rattle.std.specs.Prelude.{IfOk, IfErr, IfSome, true, false};
 ghost use Rattle.call_book.specs.Book.{unbridged};
+ghost use Rattle.memory_requests.specs.Refused.{WasRefused};
 
 use crate::errors::{BridgeError, ReserveError, Stale};
 use crate::lease::Lease;
 use crate::leg_name::LegName;
 use crate::name_table::NameTable;
 use crate::ranges::numbers_from;
+use memory_requests::{copied, push, with_capacity};
 use std::alloc::{AllocError, Global};
 use std::collections::VecDeque;
 use std::marker::Model;
@@ -56,16 +58,17 @@ impl CallBook {
         requires counts { All IsCount counts.now }
         ensures fresh { IfOk result (λ book. book ≡ fresh_book counts.now first_serial) }
         ensures sound { IfOk result IsBook }
+        ensures no_memory { OnErr result WasRefused }
     {
-        let mut free = Vec::with_capacity(alloc, counts.len())?;
+        let mut free = with_capacity(alloc, counts.len())?;
         let mut first = 1;
         for &count in counts {
-            free.push(numbers_from(alloc, first, count)?)?;
+            push(&mut free, numbers_from(alloc, first, count)?)?;
             first += count;
         }
         let places = usize::from(first);
         Ok(CallBook {
-            counts: counts.to_vec(alloc)?,
+            counts: copied(alloc, counts)?,
             names: NameTable::new(alloc, places)?,
             partners: NameTable::new(alloc, places)?,
             free,

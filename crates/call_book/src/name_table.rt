@@ -1,8 +1,10 @@
 //! Names by number, in an array.
-ghost use Rattle.std.specs.Prelude.{◌≡◌, ◌<◌, Some, None, IfOk};
+ghost use Rattle.std.specs.Prelude.{◌≡◌, ◌<◌, Some, None, IfOk, OnErr};
 ghost use Rattle.std.specs.FinMap.{empty, get, insert, remove};
+ghost use Rattle.memory_requests.specs.Refused.{WasRefused};
 
 use crate::leg_name::LegName;
+use memory_requests::filled;
 use std::alloc::{AllocError, Global};
 use std::marker::Model;
 
@@ -27,10 +29,11 @@ impl Model for NameTable {
 impl NameTable {
     // Returns `places` places without a name.
     pub(crate) fn new(alloc: Global, places: usize) -> Result<NameTable, AllocError>
-        ensures { IfOk result (λ table. table ≡ record { names = empty; places = places }) }
+        ensures empty { IfOk result (λ table. table ≡ record { names = empty; places = places }) }
+        ensures no_memory { OnErr result WasRefused }
     {
         Ok(NameTable {
-            places: vec![in alloc; None; places]?,
+            places: filled(alloc, None, places)?,
         })
     }
 

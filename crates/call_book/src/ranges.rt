@@ -1,8 +1,10 @@
 //! The range of numbers that each peer has.
-ghost use Rattle.std.specs.Prelude.{◌≡◌, ◌<◌, ◌+◌, ◌^◌, IfOk};
+ghost use Rattle.std.specs.Prelude.{◌≡◌, ◌<◌, ◌+◌, ◌^◌, IfOk, OnErr};
 ghost use Rattle.std.specs.VecDeque.{deque_capacity};
 ghost use Rattle.std.specs.List.{range_with_len};
+ghost use Rattle.memory_requests.specs.Refused.{WasRefused};
 
+use memory_requests::deque_with_capacity;
 use std::alloc::{AllocError, Global};
 use std::collections::VecDeque;
 
@@ -15,8 +17,9 @@ pub(crate) fn numbers_from(
     requires { first + count < 2 ^ 16 }
     ensures numbers { IfOk result (λ numbers. numbers.items ≡ range_with_len first count) }
     ensures room { IfOk result (λ numbers. deque_capacity numbers ≡ count) }
+    ensures no_memory { OnErr result WasRefused }
 {
-    let mut numbers = VecDeque::with_capacity(alloc, usize::from(count))?;
+    let mut numbers = deque_with_capacity(alloc, usize::from(count))?;
     for number in first..first + count {
         numbers.push_back_reserved(number);
     }

@@ -1,3 +1,4 @@
 mod LineLaws
 mod LogLaws
 mod RowLaws
+mod LedgerLaws

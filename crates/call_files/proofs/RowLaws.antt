@@ -13,9 +13,11 @@ module _ {T : Type 0} where
   some_same one other is = ap (λ o. some_or one o) is
 
   -- the oldest goes behind what was sent
-  pub front_goes_on : (sent left : List T) (row : T) → Some row ≡ slice_get left 0 → (sent ++ row ∷ []) ++ drop 1 left ≡ sent ++ left
+  pub front_goes_on : (sent left : List T) (row : T) → Some row ≡ slice_get left 0 → (sent ++ row ∷ []) ++ drop 1 left ≡ sent
+      ++ left
   front_goes_on sent [] row is = cc
-  front_goes_on sent (first ∷ left) row is = append_assoc sent (row ∷ []) left ∙ ap (λ l. sent ++ l ∷ left) (some_same row first is)
+  front_goes_on sent (first ∷ left) row is = append_assoc sent (row ∷ []) left ∙ ap (λ l. sent ++ l ∷ left)
+      (some_same row first is)
 
   -- if there is no row, none is sent
   pub nobody_goes_on : (sent left : List T) → None ≡ slice_get left 0 → sent ++ drop 1 left ≡ sent ++ left

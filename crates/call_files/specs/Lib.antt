@@ -1,3 +1,5 @@
 pub mod Lines
 pub mod Logs
 pub mod Outlets
+pub mod Ledgers
+pub mod RowLines

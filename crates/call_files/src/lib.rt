@@ -1,15 +1,27 @@
-//! Rows on their way from the threads that make them to a file. None is lost below a bound, and none is torn, whatever the
-//! file does. Nothing here opens, reads or waits: the file is a trait.
+//! The file of call records. The threads of a service hand over the row of each leg that was taken out, without waiting. A
+//! separate thread appends the rows to a file.
+//!
+//! `RowLog`, `Outlet` and `Appender` bring rows of any kind to a file that is a trait: none is lost below a bound, and none is
+//! torn, whatever the file does. They open, read and wait for nothing. Traces and the log use them too.
 #![tactic(auto)]
 
 mod appender;
+mod disk;
+mod disk_file;
 mod line;
 mod outlet;
+mod outlets;
 mod row_file;
 mod row_log;
+mod spelling;
+mod writer;
 
 pub use appender::{Appender, Trouble};
+pub use disk::Disk;
 pub use line::Line;
 pub use outlet::Outlet;
+pub use outlets::{CallOutlets, FileState};
 pub use row_file::{Beginning, Fault, RowFile, Whereabouts};
 pub use row_log::{RowLog, Spelling};
+pub use spelling::Calendar;
+pub use writer::{CallRows, write_calls_beside};

@@ -6,7 +6,7 @@ use info_elements::{
     CALLTOKEN, CAPABILITY, CAUSE, CAUSECODE, CHALLENGE, FORMAT, IAX_UNKNOWN, MD5_RESULT, USERNAME,
     VERSION, next_element, u32_in,
 };
-use text_buffer::TextBuffer;
+use plain_text::TextBuffer;
 
 // The form of an element's value.
 #[derive(Clone, Copy)]

@@ -4,7 +4,7 @@ use crate::words::{write_count, write_octets};
 use call_signals::Message;
 use iax_frames::Full;
 use peer_plan::format_name;
-use text_buffer::TextBuffer;
+use plain_text::TextBuffer;
 
 // Writes the length of a frame's data.
 fn write_payload(frame: &Full<'_>, out: &mut TextBuffer) {

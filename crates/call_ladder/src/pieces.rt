@@ -1,7 +1,7 @@
 //! Pieces of a diagram's text that `TextBuffer` doesn't have.
 use crate::xml::push_escaped;
+use plain_text::TextBuffer;
 use std::io::Write;
-use text_buffer::TextBuffer;
 
 /// Writes a number in hexadecimal digits, at least `digits` of them.
 pub(crate) fn write_hexadecimal(number: u32, digits: usize, out: &mut TextBuffer) {

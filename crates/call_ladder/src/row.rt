@@ -2,8 +2,8 @@
 use crate::media_runs::{Direction, MediaKind, MediaRun};
 use crate::sides::{Peer, Sides};
 use crate::words::write_count;
+use plain_text::TextBuffer;
 use std::alloc::Global;
-use text_buffer::TextBuffer;
 
 /// The content of a row.
 #[derive(Clone, Copy, PartialEq, Eq)]

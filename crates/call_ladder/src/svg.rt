@@ -4,8 +4,8 @@ use crate::pieces::write_escaped;
 use crate::row::{Row, Scene};
 use crate::sides::{Side, Sides};
 use crate::wrapping::split_line;
+use plain_text::TextBuffer;
 use std::alloc::Global;
-use text_buffer::TextBuffer;
 
 // The place of the first lifeline, the distance between lifelines, and the letters of a label's line.
 const MARGIN: u64 = 170;

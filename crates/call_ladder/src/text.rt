@@ -7,8 +7,8 @@ use crate::pieces::write_blanks;
 use crate::row::{Row, Scene};
 use crate::sides::{Peer, Side};
 use crate::wrapping::split_line;
+use plain_text::TextBuffer;
 use std::alloc::Global;
-use text_buffer::TextBuffer;
 
 // The greatest width of a line, the greatest width of a name, and the width of an arrow, in columns.
 const COLUMNS: usize = 100;

@@ -2,7 +2,7 @@
 use crate::pieces::write_hexadecimal;
 use call_signals::Format;
 use peer_plan::format_name;
-use text_buffer::TextBuffer;
+use plain_text::TextBuffer;
 
 // An octet: visible ASCII and the blank as they are, a backslash as two, any other by its two digits.
 fn write_octet(octet: u8, out: &mut TextBuffer) {

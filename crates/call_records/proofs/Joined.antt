@@ -1,5 +1,6 @@
 -- The leg that is noted, while other legs are numbered.
-use Rattle.std.proofs.Common.{◌≡◌, ◌≢◌, ℕ, ◌<◌, true, List, [], ◌∷◌, length, Option, Some, None, slice_get, refl, ap, ◌∙◌, rules, arith, zero, suc, length-set}
+use Rattle.std.proofs.Common.{◌≡◌, ◌≢◌, ℕ, ◌<◌, true, List, [], ◌∷◌, length, Option, Some, None, slice_get, refl, ap, ◌∙◌, rules}
+use Rattle.std.proofs.Common.{arith, zero, suc, length-set}
 use Rattle.std.proofs.Math.ListN.{set}
 use Rattle.std.specs.Prelude.{IfSome, nat_eq, unwrap_or}
 use Rattle.call_book.specs.Book.{is_same}

@@ -1,12 +1,15 @@
 -- The frames of a call that its moments imply.
-use Rattle.std.proofs.Common.{◌≡◌, Bool, true, false, cond, ◌||◌, List, [], ◌∷◌, ◌++◌, Option, Some, None, is_some, refl, sym, ap, ◌∙◌, subst, append_assoc, ◌⊎◌, inl, inr}
+use Rattle.std.proofs.Common.{◌≡◌, Bool, true, false, cond, ◌||◌, List, [], ◌∷◌, ◌++◌, Option, Some, None, is_some, refl, sym, ap}
+use Rattle.std.proofs.Common.{◌∙◌, subst, append_assoc, ◌⊎◌, inl, inr}
 use Rattle.std.specs.Prelude.{IsSome}
 use Rattle.std.specs.List.{AllByRecursion}
 use Rattle.call_signals.specs.declared.message.Message.{Message}
 use Rattle.call_signals.specs.declared.message.Message.TheVariants as messages
 use Rattle.call_records.specs.SideFrames.{SideFrame, meaning_of}
-use Rattle.call_records.specs.Courses.{accepts, answers, peer_rejection, ending_by, ending_of, moment_of, accepted_of, answered_from, answered_of, end_by, end_or, end_from}
-use Rattle.call_records.specs.CourseFacts.{GoesOn, Placed, HasFrame, HasEnding, HasAccept, HasAnswer, HasAcceptAndAnswer, HasNoHangup, IsHangup}
+use Rattle.call_records.specs.Courses.{accepts, answers, peer_rejection, ending_by, ending_of, moment_of, accepted_of}
+use Rattle.call_records.specs.Courses.{answered_from, answered_of, end_by, end_or, end_from}
+use Rattle.call_records.specs.CourseFacts.{GoesOn, Placed, HasFrame, HasEnding, HasAccept, HasAnswer, HasAcceptAndAnswer}
+use Rattle.call_records.specs.CourseFacts.{HasNoHangup, IsHangup}
 use Rattle.call_records.specs.declared.side.Side.{Side}
 use Rattle.call_records.specs.declared.side.Side.TheVariants.{Peer, Exchange}
 use Rattle.call_records.specs.declared.leg_moment.LegMoment.{LegMoment}
@@ -33,7 +36,8 @@ some_if false moment later h = h
 module _ (opener : Option Side) (accepted : Bool) (is_one : SideFrame → Bool) (first : List SideFrame → Option LegMoment)
     (none : first [] ≡ None)
     (step : (f : SideFrame) (frames : List SideFrame)
-    → first (f ∷ frames) ≡ cond (is_some (ending_of opener accepted f)) None (cond (is_one f) (Some (moment_of f)) (first frames))) where
+    → first (f ∷ frames) ≡ cond (is_some (ending_of opener accepted f)) None
+    (cond (is_one f) (Some (moment_of f)) (first frames))) where
   found-step : (f : SideFrame) (frames : List SideFrame) (ending : Option Ending) (is : Bool)
       → ending_of opener accepted f ≡ ending → is_one f ≡ is
       → (IsSome (first frames) → HasFrame opener accepted is_one frames)
@@ -86,7 +90,10 @@ both-step opener f frames None true e a rest h =
 both-step opener f frames None false e a rest h =
     let found = rest h in
     let accept = found.accepted in
-    record { accepted = record { placed = behind f accept.placed; is = accept.is; go_on = (e, accept.go_on) }; answered = found.answered }
+    record {
+      accepted = record { placed = behind f accept.placed; is = accept.is; go_on = (e, accept.go_on) };
+      answered = found.answered;
+    }
 
 pub both-found : (opener : Option Side) (frames : List SideFrame)
     → IsSome (answered_of opener frames) → HasAcceptAndAnswer opener frames

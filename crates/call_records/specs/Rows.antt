@@ -2,7 +2,7 @@
 use Rattle.std.specs.Prelude.{ℕ, List, [], ◌∷◌, Option, None, Some, codes, decimal, option_map, unwrap_or}
 use Rattle.std.specs.List.{flat_map}
 use Rattle.std.specs.Str.Lossy.{utf8_lossy}
-use Rattle.printable_text.specs.Printable.{printable_octet}
+use Rattle.plain_text.specs.Printable.{printable_octet}
 use Rattle.call_signals.specs.declared.failure.Failure.{Failure}
 use Rattle.call_signals.specs.declared.failure.Failure.TheVariants.{RetriesSpent, RecordFull, ChallengeTimeout, Inval}
 use Rattle.call_signals.specs.declared.format.Format.{Format}

@@ -139,7 +139,8 @@ impl CallRow {
         opened: &str,
         ended: &str,
     ) -> Result<(), AllocError>
-        ensures { OnOk result (fields_of fields.new ≡ fields_of fields.old ++ columns.time_columns self.now opened.now ended.now) }
+        ensures { OnOk result (fields_of fields.new ≡ fields_of fields.old ++ columns.time_columns self.now opened.now
+            ended.now) }
     {
         fields.push_field(opened)?;
         push_number(alloc, fields, Some(self.opened))?;

@@ -9,7 +9,7 @@ use crate::leg_moment::LegMoment;
 use crate::side::Side;
 use call_signals::{ElementText, Failure, Format};
 use csv::{StringRecord, WriterBuilder};
-use printable_text::printable;
+use plain_text::printable;
 use std::alloc::{AllocError, Global};
 
 // Adds a number in decimal digits, or nothing.

@@ -1,7 +1,8 @@
 -- Reading the elements of a NEW one after another.
 use Rattle.std.proofs.Common.{◌≡◌, ℕ, Bool, true, false, cond, eqb, List, ◌∷◌, Option, Some, None, refl, sym}
 use Rattle.info_elements.specs.Element.{Element, or, last_of, u8_in, u16_in, u32_in}
-use Rattle.info_elements.specs.Numbers.{CALLED_NUMBER, CALLING_NUMBER, CALLING_NAME, CALLINGPRES, CALLINGTON, CALLINGTNS, CAPABILITY, FORMAT, VERSION}
+use Rattle.info_elements.specs.Numbers.{CALLED_NUMBER, CALLING_NUMBER, CALLING_NAME, CALLINGPRES, CALLINGTON, CALLINGTNS}
+use Rattle.info_elements.specs.Numbers.{CAPABILITY, FORMAT, VERSION}
 use Rattle.call_signals.specs.NewElements.{NewElements, by_name, with_element}
 
 -- the value of a later element, if there is one, replaces the earlier value
@@ -55,7 +56,8 @@ text-none : (following : Option (List ℕ)) → or following None ≡ following
 text-none None = refl
 text-none (Some value) = refl
 
-number-none : (read : Option (List ℕ) → Option ℕ) → read None ≡ None → (following : Option (List ℕ)) → later read following None ≡ read following
+number-none : (read : Option (List ℕ) → Option ℕ) → read None ≡ None → (following : Option (List ℕ))
+    → later read following None ≡ read following
 number-none read none None = sym none
 number-none read none (Some value) = refl
 

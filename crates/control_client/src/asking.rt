@@ -64,7 +64,8 @@ fn exchange(alloc: Global, stream: &mut UnixStream, request: &str) -> io::Result
     read_whole(alloc, stream)
 }
 
-/// Sends a request to the socket at a path, and reads the whole response. An answer that is silent for ten seconds, or has more than
+/// Sends a request to the socket at a path, and reads the whole response. An answer that is silent for ten seconds, or has more
+/// than
 /// 64 MiB, is an error.
 pub(crate) fn ask<N: Net>(
     rt: &N,

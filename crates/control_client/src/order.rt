@@ -4,7 +4,7 @@ use std::alloc::{AllocError, Global};
 
 /// An order to a running service.
 #[derive(Clone, Copy)]
-pub enum Order<'w> {
+pub enum ControlOrder<'w> {
     /// `peers`
     Peers,
     /// `calls`
@@ -26,13 +26,13 @@ pub enum Order<'w> {
 }
 
 // Returns the order of one word.
-fn plain_order<'w>(word: &str) -> Option<Order<'w>> {
+fn plain_order<'w>(word: &str) -> Option<ControlOrder<'w>> {
     match word {
-        "peers" => Some(Order::Peers),
-        "calls" => Some(Order::Calls),
-        "accounts" => Some(Order::Accounts),
-        "stop" => Some(Order::Stop),
-        "drain" => Some(Order::Drain),
+        "peers" => Some(ControlOrder::Peers),
+        "calls" => Some(ControlOrder::Calls),
+        "accounts" => Some(ControlOrder::Accounts),
+        "stop" => Some(ControlOrder::Stop),
+        "drain" => Some(ControlOrder::Drain),
         _ => None,
     }
 }
@@ -40,15 +40,17 @@ fn plain_order<'w>(word: &str) -> Option<Order<'w>> {
 /// Returns the order that these words name, or `None` if they name none. Orders are `peers`, `calls`, `accounts`, `call
 /// <peer> <number>`, `hangup <number>`, `drain`, `drain off`, `stop` and `stop --graceful`. Names and numbers aren't
 /// checked here.
-pub fn order_of<'w>(words: &'w [String]) -> Option<Order<'w>> {
+pub fn order_of<'w>(words: &'w [String]) -> Option<ControlOrder<'w>> {
     match words {
         [word] => plain_order(word.as_str()),
-        [word, number] if word.as_str() == "hangup" => Some(Order::HangUp(number.as_str())),
+        [word, number] if word.as_str() == "hangup" => Some(ControlOrder::HangUp(number.as_str())),
         [word, how] if word.as_str() == "stop" && how.as_str() == "--graceful" => {
-            Some(Order::StopGracefully)
+            Some(ControlOrder::StopGracefully)
         }
-        [word, how] if word.as_str() == "drain" && how.as_str() == "off" => Some(Order::EndDrain),
-        [word, peer, number] if word.as_str() == "call" => Some(Order::Call {
+        [word, how] if word.as_str() == "drain" && how.as_str() == "off" => Some(
+            ControlOrder::EndDrain,
+        ),
+        [word, peer, number] if word.as_str() == "call" => Some(ControlOrder::Call {
             peer: peer.as_str(),
             number: number.as_str(),
         }),
@@ -56,33 +58,36 @@ pub fn order_of<'w>(words: &'w [String]) -> Option<Order<'w>> {
     }
 }
 
-impl<'w> Order<'w> {
+impl<'w> ControlOrder<'w> {
     // Returns its method.
     fn method(self) -> &'static str {
         match self {
-            Order::Peers | Order::Calls | Order::Accounts => "GET",
-            Order::Call { .. } | Order::Stop | Order::StopGracefully | Order::Drain => "POST",
-            Order::HangUp(_) | Order::EndDrain => "DELETE",
+            ControlOrder::Peers | ControlOrder::Calls | ControlOrder::Accounts => "GET",
+            ControlOrder::Call { .. }
+            | ControlOrder::Stop
+            | ControlOrder::StopGracefully
+            | ControlOrder::Drain => "POST",
+            ControlOrder::HangUp(_) | ControlOrder::EndDrain => "DELETE",
         }
     }
 
     // Returns its path, and the number that ends it, if one does. A word that isn't a number names no call.
     fn path(self) -> (&'static str, &'w str) {
         match self {
-            Order::Peers => ("/peers", ""),
-            Order::Accounts => ("/accounts", ""),
-            Order::Calls | Order::Call { .. } => ("/calls", ""),
-            Order::HangUp(number) => ("/calls/", number),
-            Order::Stop => ("/stop", ""),
-            Order::StopGracefully => ("/stop/graceful", ""),
-            Order::Drain | Order::EndDrain => ("/drain", ""),
+            ControlOrder::Peers => ("/peers", ""),
+            ControlOrder::Accounts => ("/accounts", ""),
+            ControlOrder::Calls | ControlOrder::Call { .. } => ("/calls", ""),
+            ControlOrder::HangUp(number) => ("/calls/", number),
+            ControlOrder::Stop => ("/stop", ""),
+            ControlOrder::StopGracefully => ("/stop/graceful", ""),
+            ControlOrder::Drain | ControlOrder::EndDrain => ("/drain", ""),
         }
     }
 
     // Returns its body.
     fn body(self, alloc: Global) -> Result<String, AllocError> {
         match self {
-            Order::Call { peer, number } => {
+            ControlOrder::Call { peer, number } => {
                 json!(in alloc; {"number": number, "peer": peer})?.to_string(alloc)
             }
             _ => Ok(String::new(alloc)),

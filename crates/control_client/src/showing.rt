@@ -1,8 +1,8 @@
 //! The answers to orders, as text for people.
 use crate::asking::{Answered, ask};
-use crate::order::Order;
+use crate::order::ControlOrder;
 use control_requests::{accounts_table, calls_table, peers_table};
-use printable_text::printable;
+use plain_text::printable;
 use serde_json::Value;
 use std::alloc::{AllocError, Global};
 use std::io;
@@ -51,17 +51,17 @@ fn left_text(alloc: Global, what: &str, body: &str) -> Option<String> {
 }
 
 // Returns the text of an order's answer.
-fn text_of(alloc: Global, order: Order<'_>, body: &str) -> Option<String> {
+fn text_of(alloc: Global, order: ControlOrder<'_>, body: &str) -> Option<String> {
     match order {
-        Order::Peers => peers_table(alloc, body).ok(),
-        Order::Calls => calls_table(alloc, body).ok(),
-        Order::Accounts => accounts_table(alloc, body).ok(),
-        Order::Call { .. } => call_text(alloc, "calls", body),
-        Order::HangUp(_) => call_text(alloc, "hung up", body),
-        Order::Stop => String::from_str(alloc, "stops\n").ok(),
-        Order::StopGracefully => left_text(alloc, "stops after the last call", body),
-        Order::Drain => left_text(alloc, "drains", body),
-        Order::EndDrain => String::from_str(alloc, "takes calls\n").ok(),
+        ControlOrder::Peers => peers_table(alloc, body).ok(),
+        ControlOrder::Calls => calls_table(alloc, body).ok(),
+        ControlOrder::Accounts => accounts_table(alloc, body).ok(),
+        ControlOrder::Call { .. } => call_text(alloc, "calls", body),
+        ControlOrder::HangUp(_) => call_text(alloc, "hung up", body),
+        ControlOrder::Stop => String::from_str(alloc, "stops\n").ok(),
+        ControlOrder::StopGracefully => left_text(alloc, "stops after the last call", body),
+        ControlOrder::Drain => left_text(alloc, "drains", body),
+        ControlOrder::EndDrain => String::from_str(alloc, "takes calls\n").ok(),
     }
 }
 
@@ -78,7 +78,7 @@ fn refuse_by<W: Write>(alloc: Global, writer: &mut W, value: &Value) -> u8 {
 // Writes an answer.
 fn show_answer<W: Write>(
     alloc: Global,
-    order: Order<'_>,
+    order: ControlOrder<'_>,
     answered: &Answered,
     writer: &mut W,
 ) -> u8 {
@@ -93,7 +93,12 @@ fn show_answer<W: Write>(
 }
 
 // Sends the order and returns the answer, if there is memory for the request.
-fn ask_order<N: Net>(rt: &N, alloc: Global, path: &str, order: Order<'_>) -> io::Result<Answered> {
+fn ask_order<N: Net>(
+    rt: &N,
+    alloc: Global,
+    path: &str,
+    order: ControlOrder<'_>,
+) -> io::Result<Answered> {
     let request = order.request(alloc)?;
     ask(rt, alloc, path, &request)
 }
@@ -118,7 +123,7 @@ pub fn give_order<N: Net + Eprint, W: Write>(
     rt: &N,
     alloc: Global,
     path: &str,
-    order: Order<'_>,
+    order: ControlOrder<'_>,
     writer: &mut W,
 ) -> u8 {
     match ask_order(rt, alloc, path, order) {

@@ -1,5 +1,6 @@
 -- Numbers in digits, counted up to a limit.
-use Rattle.std.proofs.Common.{◌≡◌, ◌+◌, ◌-◌, ◌*◌, ◌<◌, ℕ, List, [], ◌∷◌, Bool, true, false, cond, nat_le, Option, Some, None, option_map, refl, ap, arith}
+use Rattle.std.proofs.Common.{◌≡◌, ◌+◌, ◌-◌, ◌*◌, ◌<◌, ℕ, List, [], ◌∷◌, Bool, true, false, cond, nat_le, Option, Some, None}
+use Rattle.std.proofs.Common.{option_map, refl, ap, arith}
 use Rattle.std.proofs.lemmas.Bool.Decides.{nat_tests}
 use Rattle.std.specs.Char.{is_ascii_digit}
 use Rattle.control_requests.specs.Digits.{number_after, up_to}
@@ -16,7 +17,8 @@ above_limit limit n h = grind (arith, nat_tests)
 above : (limit m n : ℕ) (ds : List ℕ) → limit < m → limit < n → option_map (up_to limit) (number_after m ds)
     ≡ option_map (up_to limit) (number_after n ds)
 above limit m n [] hm hn = ap Some (grind (arith, above_limit limit m hm, above_limit limit n hn))
-above limit m n (d ∷ ds) hm hn = same_choice limit (is_ascii_digit d) _ _ (above limit (10 * m + (d - 48)) (10 * n + (d - 48)) ds (omega (arith, hm)) (omega (arith, hn)))
+above limit m n (d ∷ ds) hm hn = same_choice limit (is_ascii_digit d) _ _ (above limit (10 * m + (d - 48)) (10 * n + (d - 48)) ds
+    (omega (arith, hm)) (omega (arith, hn)))
 
 over : (limit n : ℕ) → nat_le n limit ≡ false → limit < n
 over limit n h = grind (arith, nat_tests)

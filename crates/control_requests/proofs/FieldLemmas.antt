@@ -1,5 +1,6 @@
 -- Lists of fields, seen through a function.
-use Rattle.std.proofs.Common.{◌≡◌, ℕ, List, [], ◌∷◌, Bool, true, false, ◌||◌, cond, map, Option, Some, None, option_map, codes, refl, ap, ◌∙◌}
+use Rattle.std.proofs.Common.{◌≡◌, ℕ, List, [], ◌∷◌, Bool, true, false, ◌||◌, cond, map, Option, Some, None, option_map, codes}
+use Rattle.std.proofs.Common.{refl, ap, ◌∙◌}
 use Rattle.std.specs.List.{list_any, find}
 use Rattle.control_requests.specs.Digits.{number_of}
 use Rattle.control_requests.specs.Requests.{is_named, is_other, length_by, length_in, body_length}
@@ -26,12 +27,14 @@ twice f g (Some x) = refl
 -- the same for a part of the first one
 pub part_seen : {A B C : Type 0} (test : B → Bool) (see : A → B) (part : B → C) (items : List A) →
     option_map (λ item. part (see item)) (find (λ item. test (see item)) items) ≡ option_map part (find test (map see items))
-part_seen test see part items = twice see part (find (λ item. test (see item)) items) ∙ ap (option_map part) (find_seen test see items)
+part_seen test see part items = twice see part (find (λ item. test (see item)) items) ∙ ap (option_map part)
+    (find_seen test see items)
 
 others_seen : {F : Type 0} (see : F → List ℕ × List ℕ) (fields : List F) (value : Option (List ℕ)) →
     length_by see fields value ≡ length_by (λ field. field) (map see fields) value
 others_seen see fields None = refl
-others_seen see fields (Some value) = ap (λ b. cond b None (number_of value)) (any_seen (is_other (codes "content-length") value) see fields)
+others_seen see fields (Some value) = ap (λ b. cond b None (number_of value)) (any_seen (is_other (codes "content-length") value)
+    see fields)
 
 -- the length by fields is the length by their names and values
 pub length_seen : {F : Type 0} (see : F → List ℕ × List ℕ) (fields : List F) → length_in see fields
@@ -41,5 +44,7 @@ length_seen see fields =
     let long = is_named (codes "content-length") in
     let first = option_map (λ field. (see field).1) (find (λ field. long (see field)) fields) in
     ap (λ b. cond b None (length_by see fields first)) (any_seen coded see fields)
-    ∙ ap (λ value. cond (list_any coded (map see fields)) None (length_by see fields value)) (part_seen long see (λ field. field.1) fields)
-    ∙ ap (cond (list_any coded (map see fields)) None) (others_seen see fields (option_map (λ field. field.1) (find long (map see fields))))
+    ∙ ap (λ value. cond (list_any coded (map see fields)) None (length_by see fields value))
+    (part_seen long see (λ field. field.1) fields)
+    ∙ ap (cond (list_any coded (map see fields)) None)
+    (others_seen see fields (option_map (λ field. field.1) (find long (map see fields))))

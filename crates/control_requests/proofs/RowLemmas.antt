@@ -9,7 +9,8 @@ after-more : (rows : List Members) (row : Members) → after_first rows ++ 44 �
     ≡ after_first (rows ++ row ∷ [])
 after-more [] row = ap (λ (text : List ℕ). 44 ∷ text) (sym (append-nil (compact_text (object row))))
 after-more (first ∷ rows) row =
-    ap (λ (text : List ℕ). 44 ∷ text) (append_assoc (compact_text (object first)) (after_first rows) (44 ∷ compact_text (object row))
+    ap (λ (text : List ℕ). 44 ∷ text) (append_assoc (compact_text (object first)) (after_first rows)
+    (44 ∷ compact_text (object row))
     ∙ ap (λ (text : List ℕ). compact_text (object first) ++ text) (after-more rows row))
 
 -- after other rows, the next row follows a comma

@@ -26,11 +26,11 @@ shown_data (TextOrNull text) = optional_text (option_copied text)
 abbrev pub Named : Type 0
 Named = Bor (List ℕ) × Shown
 
--- the members, with these put among them, the last of two with one name
+-- the members after these were added in order; a later member replaces an earlier one of its name
 abbrev pub with_shown : List Named → Members → Members
 with_shown [] members = members
 with_shown (named ∷ more) members = with_shown more (put named.0.now (shown_data named.1) members)
 
--- an object of these
+-- an object with these members and no others
 abbrev pub object_of : List Named → Data
 object_of named = object (with_shown named no_members)

@@ -5,7 +5,7 @@ use Rattle.serde_json.specs.Data.{member}
 use Rattle.serde_json.specs.Written.{compact_text}
 use Rattle.control_requests.specs.Members.{optional, optional_text}
 use Rattle.control_requests.specs.declared.views.PeerRow.{PeerRow}
-use Rattle.control_requests.specs.declared.views.CallRow.{CallRow}
+use Rattle.control_requests.specs.declared.views.CallEntry.{CallEntry}
 use Rattle.control_requests.specs.declared.views.AccountsRow.{AccountsRow}
 
 abbrev pub peer_data : PeerRow → Data
@@ -27,7 +27,7 @@ peer_data row = object (
     member (codes "unreachable_ms") (optional row.unreachable_ms) (
     member (codes "worker") (number (unsigned row.worker)) no_members))))))))))))))))
 
-abbrev pub call_data : CallRow → Data
+abbrev pub call_data : CallEntry → Data
 call_data row = object (
     member (codes "age_ms") (number (unsigned row.age_ms)) (
     member (codes "called") (optional_text (option_copied row.called)) (

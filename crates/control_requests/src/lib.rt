@@ -17,4 +17,4 @@ pub use command::{Command, Methods, NoCommand, command_of};
 pub use placing::{PlaceFault, PlaceOrder, place_of};
 pub use request::{BODY_LIMIT, FIELD_LIMIT, HEAD_LIMIT, Reading, Request, read_request};
 pub use tables::{TableFault, accounts_table, calls_table, peers_table};
-pub use views::{AccountsRow, CallRow, PeerRow, Rows, accounts_body, call_body};
+pub use views::{AccountsRow, CallEntry, PeerRow, Rows, accounts_body, call_body};

@@ -1,5 +1,5 @@
 //! Answers as tables for people.
-use printable_text::printable;
+use plain_text::printable;
 use serde_json::Value;
 use std::alloc::{AllocError, Global};
 use std::slice;

@@ -46,7 +46,7 @@ pub struct PeerRow<'a> {
 
 /// The view of a call.
 #[derive(Clone, Copy)]
-pub struct CallRow<'a> {
+pub struct CallEntry<'a> {
     /// The local call number.
     pub number: u16,
     /// The count of legs that had this number.
@@ -89,7 +89,7 @@ pub struct AccountsRow {
 /// Returns the JSON of one call, an object. A missing value is `null`.
 ///
 /// `AllocError`: a request for memory was refused.
-pub fn call_body(alloc: Global, row: CallRow<'_>) -> Result<String, AllocError>
+pub fn call_body(alloc: Global, row: CallEntry<'_>) -> Result<String, AllocError>
     ensures { IfOk result (λ body. string_bytes body ≡ compact_text (call_data row.entry)) }
 {
     let members = [
@@ -202,7 +202,7 @@ impl Rows {
     /// Adds a call behind the others.
     ///
     /// `AllocError`: a request for memory was refused. Then the rows stay as they were.
-    pub fn push_call(&mut self, alloc: Global, row: CallRow<'_>) -> Result<(), AllocError>
+    pub fn push_call(&mut self, alloc: Global, row: CallEntry<'_>) -> Result<(), AllocError>
         ensures ok { OnOk result (self.new ≡ followed self.old (compact_text (call_data row.entry))) }
         ensures err { OnErr result (self.new ≡ self.old) }
     {

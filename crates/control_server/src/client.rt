@@ -1,6 +1,12 @@
 //! One client: its octets come in until its request is complete, and then its answer is sent.
+ghost use Rattle.std.specs.Prelude.{◌≡◌, ◌≢◌, ◌⊎◌, ◌+◌, ◌<◌, [], IfOk, IsErr, IsFalse, vec_len};
+ghost use Rattle.control_requests.specs.Requests.{Reads};
+ghost use Rattle.control_server.specs.Clients.{WasHeard, WasServed, WasSpoken, has_ended, is_answered, kept_of};
+ghost use Rattle.control_requests.specs.declared.request.Reading.TheVariants.{Part};
+ghost use Rattle.control_server.specs.declared.client.ClientStage.TheVariants.{Asking, Answered, Draining, Ended};
+
 use crate::doors::{Door, Stream};
-use control_requests::{Reading, read_request};
+use control_requests::{Answer, Reading, Status, read_request};
 use std::alloc::{AllocError, Global};
 use std::io::ErrorKind;
 
@@ -10,9 +16,12 @@ const PIECE: usize = 4096;
 // The number of reads, and of writes, that a client gets in one round.
 const ROUNDS: u32 = 64;
 
+// The time after which a client is closed in any case, in milliseconds.
+const CLIENT_MS: u64 = 5000;
+
 /// The progress of a client.
 #[derive(Clone, Copy, Debug, PartialEq, Eq)]
-pub enum Stage {
+pub enum ClientStage {
     /// Its request isn't complete.
     Asking,
     /// Its answer isn't sent.
@@ -33,7 +42,7 @@ pub struct Client {
     pub since: u64,
     /// The moment at which an octet of it was last read or written.
     pub active: u64,
-    pub stage: Stage,
+    pub stage: ClientStage,
     input: Vec<u8>,
     output: Vec<u8>,
     sent: usize,
@@ -41,13 +50,22 @@ pub struct Client {
 
 impl Client {
     /// Returns a client that hasn't sent anything.
-    pub fn new(alloc: Global, stream: Stream, door: Door, since: u64) -> Client {
+    pub fn new(alloc: Global, stream: Stream, door: Door, since: u64) -> Client
+        ensures stream { result.stream ≡ stream }
+        ensures door { result.door ≡ door }
+        ensures since { result.since ≡ since }
+        ensures active { result.active ≡ since }
+        ensures stage { result.stage ≡ Asking }
+        ensures input { result.input.items ≡ [] }
+        ensures output { result.output.items ≡ [] }
+        ensures sent { result.sent ≡ 0 }
+    {
         Client {
             stream,
             door,
             since,
             active: since,
-            stage: Stage::Asking,
+            stage: ClientStage::Asking,
             input: Vec::new(alloc),
             output: Vec::new(alloc),
             sent: 0,
@@ -55,23 +73,30 @@ impl Client {
     }
 
     // Ends the client after an error of the system, unless the call can be tried again. Returns whether to try at once.
-    fn fail(&mut self, kind: ErrorKind) -> bool {
+    fn fail(&mut self, kind: ErrorKind) -> bool
+        ensures { (self.new ≡ self.old) ⊎ (self.new ≡ record self.old { stage = Ended }) }
+    {
         if kind != ErrorKind::WouldBlock && kind != ErrorKind::Interrupted {
-            self.stage = Stage::Ended;
+            self.stage = ClientStage::Ended;
         }
         kind == ErrorKind::Interrupted
     }
 
     // Reads once. Returns false if nothing waits or the input has ended.
-    fn take_some(&mut self) -> Result<bool, AllocError> {
+    fn take_some(&mut self) -> Result<bool, AllocError>
+        ensures heard { WasHeard self.old self.new }
+        ensures active { self.new.active ≡ self.old.active }
+        ensures later { self.old.stage ≢ Asking → self.new.input ≡ self.old.input }
+        ensures bounded { vec_len self.new.input < vec_len self.old.input + 4097 }
+    {
         let mut piece = [0u8; PIECE];
         match self.stream.read_some(&mut piece) {
             Ok(0) => {
-                self.stage = Stage::Ended;
+                self.stage = ClientStage::Ended;
                 Ok(false)
             }
             Ok(count) => {
-                if self.stage == Stage::Asking {
+                if self.stage == ClientStage::Asking {
                     self.input.extend_from_slice(&piece[..count])?;
                 }
                 Ok(true)
@@ -81,14 +106,19 @@ impl Client {
     }
 
     // Writes once. Returns false if the system takes no more now.
-    fn give_some(&mut self) -> bool {
+    fn give_some(&mut self) -> bool
+        requires { self.old.stage ≡ Answered }
+        ensures spoken { WasSpoken self.old self.new }
+        ensures active { self.new.active ≡ self.old.active }
+        ensures output { self.new.output ≡ self.old.output }
+    {
         let Some(rest) = self.output.get(self.sent..) else {
             return false;
         };
         if rest.is_empty() {
             self.stage = match self.stream.end_output() {
-                Ok(()) => Stage::Draining,
-                Err(_) => Stage::Ended,
+                Ok(()) => ClientStage::Draining,
+                Err(_) => ClientStage::Ended,
             };
             return false;
         }
@@ -104,10 +134,17 @@ impl Client {
         }
     }
 
-    /// Reads the available input at `now`, in at most 64 reads, until the request is complete.
-    pub fn hear(&mut self, now: u64) -> Result<(), AllocError> {
+    // Reads the available input at `now`, in at most 64 reads, until the request is complete. So at most 16,383 octets are
+    // kept of it.
+    fn take(&mut self, now: u64) -> Result<(), AllocError>
+        ensures heard { WasHeard self.old self.new }
+        ensures later { self.old.stage ≢ Asking → self.new.input ≡ self.old.input }
+        ensures answered { self.old.stage ≡ Answered → self.new ≡ self.old }
+        ensures active { (self.new.active ≡ self.old.active) ⊎ (self.new.active ≡ now) }
+        ensures bounded { vec_len self.old.input < 16384 → vec_len self.new.input < 16384 }
+    {
         for _ in 0..ROUNDS {
-            if self.stage == Stage::Answered || self.is_whole() || !self.take_some()? {
+            if self.stage == ClientStage::Answered || self.is_whole() || !self.take_some()? {
                 break;
             }
             self.active = now;
@@ -115,47 +152,125 @@ impl Client {
         Ok(())
     }
 
+    /// Reads the available input at `now`, in at most 64 reads. Input that isn't a valid request is answered with the fault.
+    /// Without memory the client ends.
+    pub fn hear(&mut self, alloc: Global, now: u64)
+        ensures served { WasServed self.old self.new }
+        ensures bounded { vec_len self.old.input < 16384 → vec_len self.new.input < 16384 }
+    {
+        if self.take(now).is_err() {
+            self.stage = ClientStage::Ended;
+        }
+        if self.stage == ClientStage::Asking {
+            if let Some((status, why)) = fault_of(&self.reading()) {
+                self.answer(refusal(alloc, status, why));
+            }
+        }
+    }
+
     // Returns whether its request is complete or can't become so.
-    fn is_whole(&self) -> bool {
-        self.stage == Stage::Asking && self.reading() != Reading::Part
+    fn is_whole(&self) -> bool
+        ensures { self.now.stage ≡ Asking → IsFalse result → vec_len self.now.input < 12288 }
+    {
+        self.stage == ClientStage::Asking && self.reading() != Reading::Part
     }
 
     /// Reads its input so far.
-    pub fn reading(&self) -> Reading<'_> {
+    pub fn reading(&self) -> Reading<'_>
+        ensures reads { Reads self.now.input.items result }
+        ensures bounded { result ≡ Part → vec_len self.now.input < 12288 }
+    {
         read_request(&self.input)
     }
 
     /// Sets its answer. Without memory for the answer the client ends.
-    pub fn answer(&mut self, octets: Result<Vec<u8>, AllocError>) {
+    pub fn answer(&mut self, octets: Result<Vec<u8>, AllocError>)
+        ensures kept { IfOk octets (λ kept. self.new ≡ record self.old { output = kept; stage = Answered }) }
+        ensures none { IsErr octets → self.new ≡ record self.old { stage = Ended } }
+    {
         match octets {
             Ok(octets) => {
                 self.output = octets;
-                self.stage = Stage::Answered;
+                self.stage = ClientStage::Answered;
             }
-            Err(_) => self.stage = Stage::Ended,
+            Err(_) => self.stage = ClientStage::Ended,
         }
     }
 
     /// Returns the number of octets of its answer that are kept.
-    pub fn kept(&self) -> usize {
-        if self.stage == Stage::Answered {
+    pub fn kept(&self) -> usize
+        ensures { result ≡ kept_of self.now }
+    {
+        if self.stage == ClientStage::Answered {
             self.output.len()
         } else {
             0
         }
     }
 
-    /// Sends what the system takes at `now`, in at most 64 writes. A sent answer isn't kept.
-    pub fn speak(&mut self, now: u64) {
+    // Sends what the system takes at `now`, in at most 64 writes. A sent answer isn't kept.
+    fn give(&mut self, now: u64)
+        ensures served { WasServed self.old self.new }
+        ensures spoken { self.old.stage ≡ Answered → WasSpoken self.old self.new }
+        ensures output { self.new.stage ≢ Draining → self.new.output ≡ self.old.output }
+        ensures dropped { self.new.stage ≡ Draining → self.new.output.items ≡ [] }
+        ensures active { (self.new.active ≡ self.old.active) ⊎ (self.new.active ≡ now) }
+        ensures others { self.old.stage ≢ Answered → self.old.stage ≢ Draining → self.new ≡ self.old }
+    {
         for _ in 0..ROUNDS {
-            if self.stage != Stage::Answered || !self.give_some() {
+            if self.stage != ClientStage::Answered || !self.give_some() {
                 break;
             }
             self.active = now;
         }
-        if self.stage == Stage::Draining {
+        if self.stage == ClientStage::Draining {
             self.output.clear();
             self.output.shrink_to_fit();
         }
+    }
+
+    /// Sends what the system takes at `now`, in at most 64 writes. A client that has been connected for five seconds ends.
+    pub fn speak(&mut self, now: u64)
+        ensures { WasServed self.old self.new }
+    {
+        self.give(now);
+        if now.saturating_sub(self.since) >= CLIENT_MS {
+            self.stage = ClientStage::Ended;
+        }
+    }
+
+    /// Returns whether its answer is still to be sent.
+    pub fn is_answered(&self) -> bool
+        ensures { result ≡ is_answered self.now }
+    {
+        match self.stage {
+            ClientStage::Answered => true,
+            ClientStage::Asking | ClientStage::Draining | ClientStage::Ended => false,
+        }
+    }
+
+    /// Returns whether it can be closed.
+    pub fn has_ended(&self) -> bool
+        ensures { result ≡ has_ended self.now }
+    {
+        match self.stage {
+            ClientStage::Ended => true,
+            ClientStage::Asking | ClientStage::Answered | ClientStage::Draining => false,
+        }
+    }
+}
+
+/// Returns an answer that names the fault.
+pub fn refusal(alloc: Global, status: Status, why: &str) -> Result<Vec<u8>, AllocError> {
+    Answer::error(alloc, status, why)?.octets(alloc)
+}
+
+// Returns the fault of a client's input.
+fn fault_of(reading: &Reading<'_>) -> Option<(Status, &'static str)> {
+    match reading {
+        Reading::HeadTooLarge => Some((Status::HeadTooLarge, "HeadTooLarge")),
+        Reading::BodyTooLarge => Some((Status::TooLarge, "BodyTooLarge")),
+        Reading::Malformed => Some((Status::BadRequest, "Malformed")),
+        _ => None,
     }
 }

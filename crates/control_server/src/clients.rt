@@ -1,7 +1,15 @@
 //! The clients of a service: they connect to a listener, send a request, and are answered, one after another.
-use crate::client::{Client, Stage};
+ghost use Rattle.std.specs.Prelude.{◌≡◌, ◌+◌, ◌-◌, ◌^◌, ◌<◌, ◌≤◌, ◌↔◌, []};
+ghost use Rattle.std.specs.Prelude.{IfOk, IfSome, IsErr, IsFalse, IsTrue, filter, min, not, slice_get, sum_by, vec_len};
+ghost use Rattle.std.specs.List.{list_any};
+ghost use Rattle.control_requests.specs.Requests.{Reads};
+ghost use Rattle.control_requests.specs.declared.request.Reading.TheVariants.{Whole, Part};
+ghost use Rattle.control_server.specs.Clients.{WasServed, At, has_ended, is_answered, kept_of};
+ghost use Rattle.control_server.specs.declared.client.ClientStage.TheVariants.{Asking, Answered, Draining, Ended};
+
+use crate::client::{Client, ClientStage, refusal};
 use crate::doors::{Door, Doors, NotBound, Stream};
-use control_requests::{Answer, Reading, Request, Status};
+use control_requests::{Reading, Request, Status};
 use mio::unix::SourceFd;
 use mio::{Events, Interest, Poll, Token};
 use std::alloc::{AllocError, Global};
@@ -13,9 +21,6 @@ use std::time::Duration;
 
 /// The number of clients of each listener that are served at once.
 pub const CLIENTS: usize = 32;
-
-// The time after which a client is closed in any case, in milliseconds.
-const CLIENT_MS: u64 = 5000;
 
 // The time without a write, in milliseconds, after which an answered client gives way to another.
 const STUCK_MS: u64 = 1000;
@@ -61,7 +66,9 @@ impl Clients {
     /// Returns a value without listeners and clients.
     ///
     /// Returns the system's error if it gives no poll, or no memory.
-    pub fn new<R: Net>(rt: &R, alloc: Global) -> io::Result<Clients> {
+    pub fn new<R: Net>(rt: &R, alloc: Global) -> io::Result<Clients>
+        ensures { IfOk result (λ clients. clients.clients.items ≡ []) }
+    {
         let events = Events::with_capacity(alloc, 64)?;
         let clients = Vec::with_capacity(alloc, 2 * CLIENTS)?;
         let poll = Poll::new(rt)?;
@@ -83,7 +90,9 @@ impl Clients {
         rt: &R,
         control: Option<&str>,
         metrics: Option<SocketAddr>,
-    ) -> Result<(), NotBound> {
+    ) -> Result<(), NotBound>
+        ensures { self.new.clients ≡ self.old.clients }
+    {
         self.doors.bind_control(rt, self.alloc, control)?;
         self.doors.bind_metrics(rt, metrics)?;
         match self.doors.register(self.poll.registry()) {
@@ -93,12 +102,16 @@ impl Clients {
     }
 
     /// Removes the file of the control socket at its path, if it is bound and still there.
-    pub fn unbind<R: Files>(&mut self, rt: &R, path: &str) {
+    pub fn unbind<R: Files>(&mut self, rt: &R, path: &str)
+        ensures { self.new.clients ≡ self.old.clients }
+    {
         self.doors.unbind_control(rt, path);
     }
 
     /// Watches standard input for its end; fails if it is closed or a file.
-    pub fn await_end_of_input(&mut self) -> io::Result<()> {
+    pub fn await_end_of_input(&mut self) -> io::Result<()>
+        ensures { self.new.clients ≡ self.old.clients }
+    {
         let mut input = SourceFd(&0);
         self.poll
             .registry()
@@ -118,7 +131,11 @@ impl Clients {
     }
 
     /// Returns whether the last `wait` reported the end of standard input. It returns true only once.
-    pub fn takes_end_of_input(&mut self) -> bool {
+    pub fn takes_end_of_input(&mut self) -> bool
+        ensures clients { self.new.clients ≡ self.old.clients }
+        ensures once { IsTrue result → IsTrue self.old.awaits_end }
+        ensures watches { IsTrue self.new.awaits_end ↔ (IsTrue self.old.awaits_end × IsFalse result) }
+    {
         if self.awaits_end && self.has_input_ended() {
             self.awaits_end = false;
             return true;
@@ -127,7 +144,9 @@ impl Clients {
     }
 
     /// Waits for a client for at most `most_ms` milliseconds, and not at all if connections wait already.
-    pub fn wait(&mut self, most_ms: u64) {
+    pub fn wait(&mut self, most_ms: u64)
+        ensures { self.new.clients ≡ self.old.clients }
+    {
         let ms = if self.may_have_more { 0 } else { most_ms };
         let _ = self
             .poll
@@ -216,32 +235,35 @@ impl Clients {
     }
 
     /// Returns the number of clients. Each keeps its place below that until `admit` or `close_ended`.
-    pub fn count(&self) -> usize {
+    pub fn count(&self) -> usize
+        ensures { result ≡ vec_len self.now.clients }
+    {
         self.clients.len()
     }
 
     /// Reads the available input of the client at a place. Input that isn't a valid request is answered here with the
     /// fault.
-    pub fn hear(&mut self, place: usize, now: u64) {
+    pub fn hear(&mut self, place: usize, now: u64)
+        ensures { At WasServed place self.old.clients.items self.new.clients.items }
+    {
         let alloc = self.alloc;
-        let Some(client) = self.clients.get_mut(place) else {
-            return;
-        };
-        if client.hear(now).is_err() {
-            client.stage = Stage::Ended;
-        }
-        if client.stage != Stage::Asking {
-            return;
-        }
-        if let Some((status, why)) = fault_of(&client.reading()) {
-            client.answer(refusal(alloc, status, why));
+        if let Some(client) = self.clients.get_mut(place) {
+            client.hear(alloc, now);
         }
     }
 
     /// Returns the request of the client at a place, and its listener, if the request is complete and not answered.
-    pub fn request(&self, place: usize) -> Option<(Door, Request<'_>)> {
+    pub fn request(&self, place: usize) -> Option<(Door, Request<'_>)>
+        ensures asking { IfSome result (λ found.
+            IfSome (slice_get self.now.clients.items place) (λ client. client.stage ≡ Asking)) }
+        ensures door { IfSome result (λ found.
+            IfSome (slice_get self.now.clients.items place) (λ client. client.door ≡ found.0)) }
+        ensures whole { IfSome result (λ found.
+            IfSome (slice_get self.now.clients.items place) (λ client. Reads client.input.items (Whole found.1))) }
+        ensures there { IfSome result (λ found. place < vec_len self.now.clients) }
+    {
         let client = self.clients.get(place)?;
-        if client.stage != Stage::Asking {
+        if client.stage != ClientStage::Asking {
             return None;
         }
         match client.reading() {
@@ -251,7 +273,9 @@ impl Clients {
     }
 
     // Returns the octets of answers that are kept.
-    fn kept(&self) -> usize {
+    fn kept(&self) -> usize
+        ensures { result ≡ min (sum_by kept_of self.now.clients.items) (2 ^ 64 - 1) }
+    {
         let mut kept: usize = 0;
         for client in self.clients.iter() {
             kept = kept.saturating_add(client.kept());
@@ -259,16 +283,30 @@ impl Clients {
         kept
     }
 
-    /// Sets the answer of the client at a place. It is `Busy` (503) if more than 16 MiB of answers would be kept. A client
-    /// is closed without an answer if there was no memory for it.
-    pub fn answer(&mut self, place: usize, octets: Result<Vec<u8>, AllocError>) {
-        let kept = self.kept();
-        let octets = match octets {
-            Ok(octets) if kept.saturating_add(octets.len()) > KEPT => {
+    // Returns the answer, or `Busy` if it is too large together with those that are kept.
+    fn within_limit(&self, octets: Result<Vec<u8>, AllocError>) -> Result<Vec<u8>, AllocError>
+        ensures given { IfOk octets (λ given.
+            sum_by kept_of self.now.clients.items + vec_len given ≤ 16777216 → result ≡ octets) }
+        ensures none { IsErr octets → result ≡ octets }
+    {
+        match octets {
+            Ok(octets) if self.kept().saturating_add(octets.len()) > KEPT => {
                 refusal(self.alloc, Status::Unavailable, "Busy")
             }
             octets => octets,
-        };
+        }
+    }
+
+    /// Sets the answer of the client at a place. It is `Busy` (503) if more than 16 MiB of answers would be kept. A client
+    /// is closed without an answer if there was no memory for it.
+    pub fn answer(&mut self, place: usize, octets: Result<Vec<u8>, AllocError>)
+        ensures { At (λ client after.
+            IfOk octets (λ given. sum_by kept_of self.old.clients.items + vec_len given ≤ 16777216
+            → after ≡ record client { output = given; stage = Answered })
+            × (IsErr octets → after ≡ record client { stage = Ended }))
+            place self.old.clients.items self.new.clients.items }
+    {
+        let octets = self.within_limit(octets);
         if let Some(client) = self.clients.get_mut(place) {
             client.answer(octets);
         }
@@ -276,28 +314,26 @@ impl Clients {
 
     /// Sends what the system takes at `now` to the client at a place. A client that has been connected for five seconds
     /// ends.
-    pub fn speak(&mut self, place: usize, now: u64) {
+    pub fn speak(&mut self, place: usize, now: u64)
+        ensures { At WasServed place self.old.clients.items self.new.clients.items }
+    {
         if let Some(client) = self.clients.get_mut(place) {
             client.speak(now);
-            if now.saturating_sub(client.since) >= CLIENT_MS {
-                client.stage = Stage::Ended;
-            }
         }
     }
 
     /// Closes the clients that have ended. The others get new places.
-    pub fn close_ended(&mut self) {
-        self.clients.retain(|client| client.stage != Stage::Ended);
+    pub fn close_ended(&mut self)
+        ensures { self.new.clients.items ≡ filter (λ client. not (has_ended client)) self.old.clients.items }
+    {
+        self.clients.retain(|client| !client.has_ended());
     }
 
     /// Returns whether an answer is still to be sent.
-    pub fn is_answering(&self) -> bool {
-        for client in self.clients.iter() {
-            if client.stage == Stage::Answered {
-                return true;
-            }
-        }
-        false
+    pub fn is_answering(&self) -> bool
+        ensures { result ≡ list_any is_answered self.now.clients.items }
+    {
+        self.clients.iter().any(|client| client.is_answered())
     }
 }
 
@@ -305,22 +341,7 @@ impl Clients {
 // answer.
 fn gives_way(client: &Client, now: u64) -> bool {
     match client.stage {
-        Stage::Answered => now.saturating_sub(client.active) >= STUCK_MS,
-        Stage::Asking | Stage::Draining | Stage::Ended => true,
-    }
-}
-
-// Returns an answer that names the fault.
-fn refusal(alloc: Global, status: Status, why: &str) -> Result<Vec<u8>, AllocError> {
-    Answer::error(alloc, status, why)?.octets(alloc)
-}
-
-// Returns the fault of a client's input.
-fn fault_of(reading: &Reading<'_>) -> Option<(Status, &'static str)> {
-    match reading {
-        Reading::HeadTooLarge => Some((Status::HeadTooLarge, "HeadTooLarge")),
-        Reading::BodyTooLarge => Some((Status::TooLarge, "BodyTooLarge")),
-        Reading::Malformed => Some((Status::BadRequest, "Malformed")),
-        _ => None,
+        ClientStage::Answered => now.saturating_sub(client.active) >= STUCK_MS,
+        ClientStage::Asking | ClientStage::Draining | ClientStage::Ended => true,
     }
 }

@@ -1,5 +1,6 @@
 //! The listeners: the control socket, and the address of the metrics.
-ghost use Rattle.std.specs.Io.{ReadsAtMost};
+ghost use Rattle.std.specs.Io.{ReadsAtMost, WritesAtMost};
+ghost use Rattle.std.specs.Prelude.{◌≡◌};
 
 use crate::socket_file;
 use crate::socket_file::SocketFile;
@@ -39,7 +40,8 @@ impl Stream {
 
     /// Reads the available octets, at most the length of `octets`.
     pub fn read_some(&mut self, octets: &mut [u8]) -> io::Result<usize>
-        ensures { ReadsAtMost result octets.new }
+        ensures bound { ReadsAtMost result octets.new }
+        ensures same { self.new ≡ self.old }
     {
         match self {
             Stream::Unix(stream) => stream.read(octets),
@@ -48,7 +50,10 @@ impl Stream {
     }
 
     /// Writes as many octets as the system takes.
-    pub fn write_some(&mut self, octets: &[u8]) -> io::Result<usize> {
+    pub fn write_some(&mut self, octets: &[u8]) -> io::Result<usize>
+        ensures bound { WritesAtMost result octets.now }
+        ensures same { self.new ≡ self.old }
+    {
         match self {
             Stream::Unix(stream) => stream.write(octets),
             Stream::Tcp(stream) => stream.write(octets),

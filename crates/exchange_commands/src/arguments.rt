@@ -1,7 +1,7 @@
 //! The words after a command.
 ghost use Rattle.std.specs.Prelude.{◌<◌, IfSome};
 
-use script_lines::decimal;
+use crate::decimal;
 
 /// Returns the number of turns that a word asks for: decimal digits, from 1 to 4,294,967,295. Returns `None` if it isn't
 /// such a number.

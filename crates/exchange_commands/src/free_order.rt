@@ -1,15 +1,15 @@
 //! The order in which the free numbers of a peer are given out.
 ghost use Rattle.std.specs.Prelude.{◌<◌, length};
 
+use crate::decimal;
 use crate::desk::Desk;
 use crate::viewer::Stop;
 use crate::words::peer_of;
 use call_auth::Challenge;
 use exchange_core::{CallError, Exchange, NoGate, Pass};
 use exchange_report::count_legs;
-use peer_lock::Naming;
+use peer_lock::LedgerSet;
 use peer_plan::NumberRange;
-use script_lines::decimal;
 use std::alloc::Global;
 use std::sync::Wait;
 
@@ -102,7 +102,7 @@ fn inval(number: u16) -> [u8; 12] {
 }
 
 // Opens a call for each free number of the peer, and then ends the calls in this order.
-fn take_and_free<J: Naming, R: Wait>(
+fn take_and_free<J: LedgerSet, R: Wait>(
     rt: &R,
     exchange: &Exchange<NoGate, J>,
     pass: &mut Pass<J>,
@@ -133,7 +133,7 @@ fn take_and_free<J: Naming, R: Wait>(
 ///
 /// Returns `Script` if no peer has that name, one of its numbers has a leg, or the text doesn't list each of its numbers
 /// once.
-pub(crate) fn order_free<J: Naming, R: Wait, V>(
+pub(crate) fn order_free<J: LedgerSet, R: Wait, V>(
     desk: &mut Desk<'_, R, J, V>,
     peer: &[u8],
     text: &[u8],

@@ -1,4 +1,5 @@
-//! The commands of the exchange's program: a plan is checked, a script is replayed on an exchange, the workers of a plan serve.
+//! The commands of the exchange's program: a plan is checked, a script is read and replayed on an exchange, the workers of a
+//! plan serve.
 #![tactic(auto)]
 
 mod arguments;
@@ -9,6 +10,7 @@ mod outboxes;
 mod player;
 mod printing;
 mod replaying;
+mod script_line;
 mod serving;
 mod stages;
 mod viewer;
@@ -17,5 +19,6 @@ mod words;
 pub use arguments::turn_count;
 pub use checking::check;
 pub use replaying::{ReplayError, ReplayFiles, replay, replay_buffered, replay_with, tell_outcome};
+pub use script_line::{ScriptLine, decimal, ends_script, line_of};
 pub use serving::serve;
 pub use viewer::{PeerOfPlan, Received, Stop, Viewer};

@@ -1,11 +1,11 @@
 //! Sends datagrams, and shows them to a viewer.
 use crate::desk::Desk;
 use crate::viewer::{PeerOfPlan, Stop, Viewer};
-use peer_lock::Naming;
+use peer_lock::LedgerSet;
 use std::sync::Wait;
 
 /// Sends all datagrams to a peer of the plan.
-pub(crate) fn empty_outbox<J: Naming, R: Wait, V: Viewer>(
+pub(crate) fn empty_outbox<J: LedgerSet, R: Wait, V: Viewer>(
     desk: &mut Desk<'_, R, J, V>,
     place: u16,
     moment: u64,

@@ -1,4 +1,5 @@
 //! Plays the lines of a script on an exchange, and reports the result of each to a viewer.
+use crate::ScriptLine;
 use crate::desk::Desk;
 use crate::free_order::{count_numbers, order_free};
 use crate::outboxes::empty_outbox;
@@ -8,9 +9,8 @@ use crate::words::{Sender, key_of, octets_of, peer_of, places_of, sender_of};
 use call_auth::Challenge;
 use exchange_core::{Answer, Refusal, Retired};
 use exchange_report::{call_error_name, order_error_name, refusal_name};
-use peer_lock::{Naming, Status};
+use peer_lock::{LedgerSet, Status};
 use peer_plan::Plan;
-use script_lines::Line;
 use std::alloc::Global;
 use std::sync::Wait;
 
@@ -27,11 +27,11 @@ enum Begun {
 
 impl Begun {
     // The same, with this line, which wasn't refused.
-    fn with(self, line: &Line<'_>) -> Begun {
+    fn with(self, line: &ScriptLine<'_>) -> Begun {
         match (self, line) {
             (Begun::More, _) => Begun::More,
-            (_, Line::Prefix(_)) => Begun::Prefix,
-            (_, Line::Key(_) | Line::Free(_, _)) => Begun::Opening,
+            (_, ScriptLine::Prefix(_)) => Begun::Prefix,
+            (_, ScriptLine::Key(_) | ScriptLine::Free(_, _)) => Begun::Opening,
             _ => Begun::More,
         }
     }
@@ -63,16 +63,16 @@ fn is_full(octets: &[u8]) -> bool {
 }
 
 // Returns whether a line is an event of the exchange that is reported to a viewer.
-fn is_event(line: &Line<'_>) -> bool {
+fn is_event(line: &ScriptLine<'_>) -> bool {
     match line {
-        Line::Rx(_, _) | Line::Stranger(_, _) | Line::Call(_, _) => true,
-        Line::HangUp(_) | Line::Tick | Line::TickOf(_) => true,
+        ScriptLine::Rx(_, _) | ScriptLine::Stranger(_, _) | ScriptLine::Call(_, _) => true,
+        ScriptLine::HangUp(_) | ScriptLine::Tick | ScriptLine::TickOf(_) => true,
         _ => false,
     }
 }
 
 // Sets whether all peers drain, or none.
-fn drain<J: Naming, R: Wait, V: Viewer>(desk: &mut Desk<'_, R, J, V>, drains: bool) {
+fn drain<J: LedgerSet, R: Wait, V: Viewer>(desk: &mut Desk<'_, R, J, V>, drains: bool) {
     let exchange = desk.exchange;
     for peer in 0..exchange.plan().peer_count() {
         exchange.set_draining(desk.rt, desk.pass, peer, drains);
@@ -104,14 +104,14 @@ impl Player {
     /// - A challenge, a key, an endpoint, a datagram or a list of numbers is malformed.
     /// - `prefix` isn't the first line, or `key` has a line other than `prefix` before it.
     /// - `serial` has a line other than these and `free` before it, or is less than the serials that these used.
-    pub(crate) fn line<J: Naming, R: Wait, V: Viewer>(
+    pub(crate) fn line<J: LedgerSet, R: Wait, V: Viewer>(
         &mut self,
         desk: &mut Desk<'_, R, J, V>,
-        line: &Line<'_>,
+        line: &ScriptLine<'_>,
     ) -> Result<(), Stop> {
         let worked = match self.begin(line, desk.viewer) {
             Ok(sends) => match self.work(desk, line) {
-                Ok(()) if sends => self.send(desk, &Line::Send),
+                Ok(()) if sends => self.send(desk, &ScriptLine::Send),
                 worked => worked,
             },
             Err(stop) => Err(stop),
@@ -121,7 +121,7 @@ impl Player {
     }
 
     // Begins a line, and reports it to the viewer if it is an event. Returns whether its datagrams are sent at once.
-    fn begin<V: Viewer>(&self, line: &Line<'_>, viewer: &mut V) -> Result<bool, Stop> {
+    fn begin<V: Viewer>(&self, line: &ScriptLine<'_>, viewer: &mut V) -> Result<bool, Stop> {
         if !is_event(line) {
             return Ok(false);
         }
@@ -132,22 +132,24 @@ impl Player {
     }
 
     // Does what the line asks for.
-    fn work<J: Naming, R: Wait, V: Viewer>(
+    fn work<J: LedgerSet, R: Wait, V: Viewer>(
         &mut self,
         desk: &mut Desk<'_, R, J, V>,
-        line: &Line<'_>,
+        line: &ScriptLine<'_>,
     ) -> Result<(), Stop> {
         match line {
-            Line::Rx(_, digits) | Line::Stranger(_, digits) => self.hear(desk, line, digits),
-            Line::Call(peer, number) => self.call(desk, peer, number),
-            Line::HangUp(number) => self.hang_up(desk, *number),
-            Line::Tick | Line::TickOf(_) => self.tick(desk, line),
-            Line::Send | Line::SendTo(_) => self.send(desk, line),
-            Line::Drain(drains) => {
+            ScriptLine::Rx(_, digits) | ScriptLine::Stranger(_, digits) => self.hear(
+                desk, line, digits,
+            ),
+            ScriptLine::Call(peer, number) => self.call(desk, peer, number),
+            ScriptLine::HangUp(number) => self.hang_up(desk, *number),
+            ScriptLine::Tick | ScriptLine::TickOf(_) => self.tick(desk, line),
+            ScriptLine::Send | ScriptLine::SendTo(_) => self.send(desk, line),
+            ScriptLine::Drain(drains) => {
                 drain(desk, *drains);
                 Ok(())
             }
-            Line::Free(peer, numbers) => {
+            ScriptLine::Free(peer, numbers) => {
                 self.stages.doubt();
                 self.used = self.used.saturating_add(count_numbers(numbers));
                 order_free(desk, peer, numbers, self.now, &self.challenge)
@@ -172,30 +174,32 @@ impl Player {
     }
 
     // Applies a line that sets a value for the lines after it.
-    fn set(&mut self, line: &Line<'_>) -> Result<(), Stop> {
+    fn set(&mut self, line: &ScriptLine<'_>) -> Result<(), Stop> {
         match line {
-            Line::At(moment) if *moment >= self.now => self.now = *moment,
-            Line::Back(moment) if *moment <= self.now => self.now = *moment,
-            Line::At(_) | Line::Back(_) => return Err(Stop::Script),
-            Line::Challenge(text) => match Challenge::new(text) {
+            ScriptLine::At(moment) if *moment >= self.now => self.now = *moment,
+            ScriptLine::Back(moment) if *moment <= self.now => self.now = *moment,
+            ScriptLine::At(_) | ScriptLine::Back(_) => return Err(Stop::Script),
+            ScriptLine::Challenge(text) => match Challenge::new(text) {
                 Some(challenge) => self.challenge = challenge,
                 None => return Err(Stop::Script),
             },
             // The exchange was opened with it.
-            Line::Prefix(text) if !self.may_take_prefix(text) => return Err(Stop::Script),
-            Line::Key(digits) if !self.may_take_key(digits) => return Err(Stop::Script),
-            Line::Serial(serial) if !self.may_take_serial(*serial) => return Err(Stop::Script),
-            Line::Hold => self.holds = true,
+            ScriptLine::Prefix(text) if !self.may_take_prefix(text) => return Err(Stop::Script),
+            ScriptLine::Key(digits) if !self.may_take_key(digits) => return Err(Stop::Script),
+            ScriptLine::Serial(serial) if !self.may_take_serial(*serial) => return Err(
+                Stop::Script,
+            ),
+            ScriptLine::Hold => self.holds = true,
             _ => {}
         }
         Ok(())
     }
 
     // Receives the datagram of a line.
-    fn hear<J: Naming, R: Wait, V: Viewer>(
+    fn hear<J: LedgerSet, R: Wait, V: Viewer>(
         &mut self,
         desk: &mut Desk<'_, R, J, V>,
-        line: &Line<'_>,
+        line: &ScriptLine<'_>,
         digits: &[u8],
     ) -> Result<(), Stop> {
         match sender_of(desk.exchange.plan(), line) {
@@ -208,7 +212,7 @@ impl Player {
     }
 
     // Receives these octets.
-    fn hear_octets<J: Naming, R: Wait, V: Viewer>(
+    fn hear_octets<J: LedgerSet, R: Wait, V: Viewer>(
         &mut self,
         desk: &mut Desk<'_, R, J, V>,
         sender: Sender<'_>,
@@ -249,7 +253,7 @@ impl Player {
     }
 
     // Places a call.
-    fn call<J: Naming, R: Wait, V: Viewer>(
+    fn call<J: LedgerSet, R: Wait, V: Viewer>(
         &mut self,
         desk: &mut Desk<'_, R, J, V>,
         peer: &[u8],
@@ -267,7 +271,7 @@ impl Player {
     }
 
     // Hangs up the leg of a number.
-    fn hang_up<J: Naming, R: Wait, V: Viewer>(
+    fn hang_up<J: LedgerSet, R: Wait, V: Viewer>(
         &mut self,
         desk: &mut Desk<'_, R, J, V>,
         number: u64,
@@ -286,10 +290,10 @@ impl Player {
     }
 
     // Ticks the peers that the line names, or all, in the order of the plan.
-    fn tick<J: Naming, R: Wait, V: Viewer>(
+    fn tick<J: LedgerSet, R: Wait, V: Viewer>(
         &mut self,
         desk: &mut Desk<'_, R, J, V>,
-        line: &Line<'_>,
+        line: &ScriptLine<'_>,
     ) -> Result<(), Stop> {
         let exchange = desk.exchange;
         let (first, end) = places_of(exchange.plan(), line)?;
@@ -338,10 +342,10 @@ impl Player {
 
     // Sends the datagrams that a line left, or that all lines left since the last send. They go to the peers that the line
     // names, or to all, in the order of the plan. Then reports the legs that were taken out, and the stages that changed.
-    fn send<J: Naming, R: Wait, V: Viewer>(
+    fn send<J: LedgerSet, R: Wait, V: Viewer>(
         &mut self,
         desk: &mut Desk<'_, R, J, V>,
-        line: &Line<'_>,
+        line: &ScriptLine<'_>,
     ) -> Result<(), Stop> {
         let (first, end) = places_of(desk.exchange.plan(), line)?;
         for peer in first..end {

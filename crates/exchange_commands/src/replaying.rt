@@ -7,13 +7,13 @@ use crate::player::Player;
 use crate::printing::Printer;
 use crate::viewer::{Stop, Viewer};
 use crate::words::key_of;
+use crate::{ScriptLine, ends_script, line_of};
 use call_auth::Challenge;
 use exchange_core::{Exchange, NoGate, Pass};
 use exchange_report::closed_accounts;
 use media_ledger::Blank;
-use peer_lock::{Naming, Service};
+use peer_lock::{LedgerSet, Service};
 use peer_plan::{Drawn, Plan, PlanError};
-use script_lines::{Line, ends_script, line_of};
 use std::alloc::{AllocError, Global};
 use std::io;
 use std::io::{BufWriter, Write};
@@ -79,7 +79,7 @@ fn write_error<W: Write>(error: ReplayError, writer: &mut W) -> io::Result<()> {
 }
 
 // Closes the accounts.
-fn settle<J: Naming, V: Viewer>(
+fn settle<J: LedgerSet, V: Viewer>(
     exchange: Exchange<NoGate, J>,
     passes: Vec<Pass<J>>,
     viewer: &mut V,
@@ -91,7 +91,7 @@ fn settle<J: Naming, V: Viewer>(
 }
 
 // Plays one line. After `settle` only empty lines and comments may follow.
-fn work_line<J: Naming, R: Wait, V: Viewer>(
+fn work_line<J: LedgerSet, R: Wait, V: Viewer>(
     rt: &R,
     alloc: Global,
     player: &mut Player,
@@ -100,8 +100,8 @@ fn work_line<J: Naming, R: Wait, V: Viewer>(
     viewer: &mut V,
 ) -> Result<(), Stop> {
     match (line_of(line), open) {
-        (Some(Line::Nothing), _) => Ok(()),
-        (Some(Line::Settle), open) => match open.take() {
+        (Some(ScriptLine::Nothing), _) => Ok(()),
+        (Some(ScriptLine::Settle), open) => match open.take() {
             Some((exchange, passes)) => settle(exchange, passes, viewer),
             None => Err(Stop::Script),
         },
@@ -123,7 +123,7 @@ fn work_line<J: Naming, R: Wait, V: Viewer>(
 }
 
 // Closes an exchange that is still open. It isn't dropped, because a drop would have to be proved here field by field.
-fn close<J: Naming>(open: Option<(Exchange<NoGate, J>, Vec<Pass<J>>)>) {
+fn close<J: LedgerSet>(open: Option<(Exchange<NoGate, J>, Vec<Pass<J>>)>) {
     if let Some((exchange, passes)) = open {
         let _accounts = closed_accounts(exchange, passes);
     }
@@ -207,9 +207,9 @@ fn drawn_of(script: &[u8]) -> Drawn {
     let mut drawn = Drawn::nothing();
     for line in script.split(|octet| *octet == b'\n') {
         match line_of(line) {
-            Some(Line::Nothing) => {}
-            Some(Line::Prefix(text)) => drawn.challenge_prefix = Challenge::new(text),
-            Some(Line::Key(digits)) => {
+            Some(ScriptLine::Nothing) => {}
+            Some(ScriptLine::Prefix(text)) => drawn.challenge_prefix = Challenge::new(text),
+            Some(ScriptLine::Key(digits)) => {
                 let key = key_of(digits).unwrap_or([0; 32]);
                 drawn.token_key = key;
                 return drawn;
@@ -226,9 +226,11 @@ fn first_serial_of(script: &[u8]) -> u64 {
     let mut used: u64 = 0;
     for line in script.split(|octet| *octet == b'\n') {
         match line_of(line) {
-            Some(Line::Nothing | Line::Prefix(_) | Line::Key(_)) => {}
-            Some(Line::Free(_, numbers)) => used = used.saturating_add(count_numbers(numbers)),
-            Some(Line::Serial(serial)) => return serial.saturating_sub(used),
+            Some(ScriptLine::Nothing | ScriptLine::Prefix(_) | ScriptLine::Key(_)) => {}
+            Some(ScriptLine::Free(_, numbers)) => used = used.saturating_add(count_numbers(
+                numbers,
+            )),
+            Some(ScriptLine::Serial(serial)) => return serial.saturating_sub(used),
             _ => return 0,
         }
     }

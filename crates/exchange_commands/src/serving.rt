@@ -4,7 +4,7 @@ ghost use Rattle.std.specs.Prelude.{◌≡◌, ◌+◌, ◌≤◌, length, vec_l
 use exchange_core::{Exchange, NoGate, Pass};
 use exchange_report::{closed_accounts, settle};
 use media_ledger::Blank;
-use peer_lock::{Naming, Service};
+use peer_lock::{LedgerSet, Service};
 use peer_plan::Plan;
 use std::alloc::Global;
 use std::io::Write;
@@ -15,17 +15,17 @@ use std::sync::Wait;
 use std::sync::ledger::Ledger;
 use std::thread::Threads;
 use std::time::{Clock, Instant};
-use udp_workers::{Post, TurnReport, run_all};
-use worker_seats::{
-    PlainSockets, ServiceError, reports_of, seats_of, service_error_name, tell_reports,
-    with_drawn_key,
+use udp_workers::{PlanBrand, TurnReport, run_all};
+use worker_setup::{
+    PlainSockets, SeatContext, ServiceError, reports_of, seats_of, service_error_name,
+    tell_reports, with_drawn_key,
 };
 
 // Makes the turns of all workers. Their passes are added back to `passes`.
 fn turns_of<
     't,
-    J: Naming,
-    P: Post + Send + Sync,
+    J: LedgerSet,
+    P: PlanBrand + Send + Sync,
     R: Clock + Net + RandomSource + Threads + Wait + Sync,
 >(
     rt: &'t R,
@@ -38,9 +38,14 @@ fn turns_of<
     requires plan { exchange.now ≡ P.plan }
     requires enough { length exchange.now.workers ≤ vec_len passes.old }
 {
-    let sockets = PlainSockets;
-    let plan = exchange.plan();
-    let seats = seats_of::<J, P, R, PlainSockets>(rt, alloc, plan, passes, opened, &sockets, None);
+    let context = SeatContext {
+        rt,
+        alloc,
+        plan: exchange.plan(),
+        opened,
+        trace: None,
+    };
+    let seats = seats_of::<J, P, R, PlainSockets>(&context, &PlainSockets, passes);
     let mut seats = match seats {
         Ok(seats) => seats,
         Err(error) => return Err(error),
@@ -58,7 +63,7 @@ fn turns_of<
 fn work<
     O: Ledger + Send + Sync,
     S: Ledger + Send + Sync,
-    P: Post + Send + Sync,
+    P: PlanBrand + Send + Sync,
     R: Clock + Net + RandomSource + Threads + Wait + Sync,
     W: Write,
 >(

@@ -2,7 +2,7 @@
 use crate::desk::Desk;
 use crate::viewer::{Stop, Viewer};
 use leg_machine::Stage;
-use peer_lock::{Naming, Status};
+use peer_lock::{LedgerSet, Status};
 use peer_plan::Plan;
 use std::alloc::{AllocError, Global};
 use std::sync::Wait;
@@ -75,7 +75,7 @@ impl Stages {
     }
 
     /// Returns the status of the leg of a number.
-    pub(crate) fn status<J: Naming, R: Wait, V>(
+    pub(crate) fn status<J: LedgerSet, R: Wait, V>(
         &self,
         desk: &mut Desk<'_, R, J, V>,
         number: u16,
@@ -106,7 +106,7 @@ impl Stages {
     }
 
     /// Reports each changed stage to the viewer, by ascending number.
-    pub(crate) fn tell<J: Naming, R: Wait, V: Viewer>(
+    pub(crate) fn tell<J: LedgerSet, R: Wait, V: Viewer>(
         &mut self,
         desk: &mut Desk<'_, R, J, V>,
         now: u64,
@@ -140,7 +140,7 @@ impl Stages {
     }
 
     // Reports the stage of the number at a place if it has changed. Returns whether it has a leg.
-    fn tell_one<J: Naming, R: Wait, V: Viewer>(
+    fn tell_one<J: LedgerSet, R: Wait, V: Viewer>(
         &mut self,
         desk: &mut Desk<'_, R, J, V>,
         place: usize,

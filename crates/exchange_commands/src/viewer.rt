@@ -1,11 +1,11 @@
 //! Observer of a script replay.
 ghost use Rattle.std.specs.Prelude.{◌≡◌, ◌<◌, length, Some, option_and_then, option_map, slice_get};
 
+use crate::ScriptLine;
 use exchange_core::{Refusal, Retired};
 use exchange_report::MediaAccounts;
 use leg_machine::Stage;
 use peer_plan::{Endpoint, Plan};
-use script_lines::Line;
 use std::alloc::AllocError;
 use std::io;
 
@@ -86,7 +86,7 @@ pub trait Viewer {
     }
 
     /// Reports an event of the script: a received datagram, a call, a hangup, or a tick.
-    fn asked(&mut self, _moment: u64, _line: &Line<'_>) -> Result<(), Stop> {
+    fn asked(&mut self, _moment: u64, _line: &ScriptLine<'_>) -> Result<(), Stop> {
         Ok(())
     }
 

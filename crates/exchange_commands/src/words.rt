@@ -1,10 +1,10 @@
 //! The names and values in the words of a script's line.
 ghost use Rattle.std.specs.Prelude.{◌<◌, ◌≤◌, length, IfOk};
 
+use crate::ScriptLine;
 use crate::viewer::{PeerOfPlan, Stop};
 use exchange_report::peer_named;
 use peer_plan::{Endpoint, Plan};
-use script_lines::Line;
 use std::alloc::Global;
 use std::net::SocketAddrV4;
 use std::str;
@@ -21,12 +21,12 @@ pub(crate) fn peer_of(plan: &Plan, name: &[u8]) -> Result<u16, Stop>
 
 /// Returns the places of the peers that a line names, as the first and the end of a range. If it names none, they are those
 /// of all peers.
-pub(crate) fn places_of(plan: &Plan, line: &Line<'_>) -> Result<(u16, u16), Stop>
+pub(crate) fn places_of(plan: &Plan, line: &ScriptLine<'_>) -> Result<(u16, u16), Stop>
     ensures { IfOk result (λ places. places.1 ≤ length plan.now.peers) }
 {
     let count = plan.peer_count();
     match line {
-        Line::TickOf(name) | Line::SendTo(name) => match peer_of(plan, name) {
+        ScriptLine::TickOf(name) | ScriptLine::SendTo(name) => match peer_of(plan, name) {
             Ok(peer) => Ok((peer, peer + 1)),
             Err(stop) => Err(stop),
         },
@@ -43,16 +43,16 @@ pub(crate) struct Sender<'p> {
 }
 
 /// Returns the sender of a line's datagram: the peer that it names, or the endpoint, which no peer may have.
-pub(crate) fn sender_of<'p>(plan: &'p Plan, line: &Line<'_>) -> Result<Sender<'p>, Stop> {
+pub(crate) fn sender_of<'p>(plan: &'p Plan, line: &ScriptLine<'_>) -> Result<Sender<'p>, Stop> {
     match line {
-        Line::Rx(name, _) => {
+        ScriptLine::Rx(name, _) => {
             let peer = PeerOfPlan::at(plan, peer_of(plan, name)?);
             Ok(Sender {
                 from: peer.endpoint,
                 peer: Some(peer),
             })
         }
-        Line::Stranger(text, _) => {
+        ScriptLine::Stranger(text, _) => {
             let from = endpoint_of(text)?;
             match plan.peer_of(from) {
                 Some(_) => Err(Stop::Script),

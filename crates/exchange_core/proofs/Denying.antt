@@ -1,23 +1,27 @@
 -- The denial in a call's steps, and after one more step.
 use Rattle.std.specs.Option.{option_or, unwrap_or}
-use Rattle.std.specs.Prelude.{◌≡◌, ℕ, zero, suc, ◌+◌, ◌≤◌, List, [], ◌∷◌, ◌++◌, Bool, true, false, Option, None, Some, Ok, Err, IsSome, refl}
+use Rattle.std.specs.Prelude.{◌≡◌, ℕ, zero, suc, ◌+◌, ◌≤◌, List, [], ◌∷◌, ◌++◌, Bool, true, false, Option, None, Some, Ok, Err}
+use Rattle.std.specs.Prelude.{IsSome, refl}
 use Rattle.std.specs.Prelude.{◌≢◌, All, MatchOption, is_some, length, option_copied, option_map, slice_get}
 use Rattle.std.proofs.Common.{Bor, append_assoc, append-nil, ap, arith, sym, ◌∙◌, inl, inr}
 use Rattle.call_book.specs.declared.errors.ReserveError.TheVariants as reserve_errors
-use Rattle.call_steps.specs.Beginnings.{Beginning, OfCall, OfDatagram, OfHangUp, OfTick, beginning_at, is_answer, is_made, is_over, is_refusal}
-use Rattle.call_steps.specs.Work.{Rest, Work, after_told, at, next_at, next_of, told_at}
-use Rattle.call_steps.specs.declared.need.Need.{Need}
-use Rattle.call_steps.specs.declared.need.Need.TheVariants as needs
-use Rattle.call_steps.specs.declared.place.Place.{Place}
-use Rattle.call_steps.specs.declared.place.Place.TheVariants as places
-use Rattle.call_steps.specs.declared.reply.Reply.{Reply}
-use Rattle.call_steps.specs.declared.reply.Reply.TheVariants as replies
-use Rattle.noted_steps.specs.Notes.{Noted, steps_in, steps_of}
-use Rattle.noted_steps.specs.declared.made.Made.{Made}
-use Rattle.noted_steps.specs.declared.made.Made.TheVariants as mades
+use Rattle.call_control.specs.Beginnings.{Beginning, OfCall, OfDatagram, OfHangUp, OfTick, beginning_at, is_answer, is_made}
+use Rattle.call_control.specs.Beginnings.{is_over, is_refusal}
+use Rattle.call_control.specs.Work.{Rest, Work, after_told, at, next_at, next_of, told_at}
+use Rattle.call_control.specs.declared.need.Need.{Need}
+use Rattle.call_control.specs.declared.need.Need.TheVariants as needs
+use Rattle.call_control.specs.declared.place.Place.{Place}
+use Rattle.call_control.specs.declared.place.Place.TheVariants as places
+use Rattle.call_control.specs.declared.reply.Reply.{Reply}
+use Rattle.call_control.specs.declared.reply.Reply.TheVariants as replies
+use Rattle.step_log.specs.Notes.{Noted, steps_in, steps_of}
+use Rattle.step_log.specs.declared.made.Made.{Made}
+use Rattle.step_log.specs.declared.made.Made.TheVariants as mades
 use Rattle.peer_accounts.specs.declared.onwards.Offer.{Offer}
 use Rattle.peer_lock.specs.declared.errors.PeerError.TheVariants as peer_errors
-use Rattle.exchange_core.proofs.FirstSteps.{GoesOn, MadeIsPast, OverStays, PastStays, PlaceInPlan, RefusedIsOver, made_denies_nothing, over_is_past}
+use Rattle.exchange_core.proofs.FirstSteps.{GoesOn, MadeIsPast, OverStays, PastStays, RefusedIsOver}
+use Rattle.exchange_core.proofs.FirstPeers.{PlaceInPlan}
+use Rattle.exchange_core.proofs.FirstSteps.{made_denies_nothing, over_is_past}
 use Rattle.exchange_core.proofs.Tracing.{last_longer}
 use Rattle.peer_plan.specs.declared.endpoint.Endpoint.{Endpoint}
 use Rattle.peer_plan.specs.declared.peer.Peer.{Peer}
@@ -38,7 +42,8 @@ abbrev as_steps : Bool → ℕ
 as_steps true = 1
 as_steps false = 0
 
-unasked_is_none : (call : Call) (offer : Option Offer) (need : Need) (reply : Reply) → IsUnasked call offer need reply → 0 ≡ as_steps (is_made reply)
+unasked_is_none : (call : Call) (offer : Option Offer) (need : Need) (reply : Reply) → IsUnasked call offer need reply
+    → 0 ≡ as_steps (is_made reply)
 unasked_is_none call offer (needs.OpenOut name) reply is = sym (ap (λ r. as_steps (is_made r)) is.0)
 unasked_is_none call offer (needs.Order name act) reply is = sym (ap (λ r. as_steps (is_made r)) is.0)
 unasked_is_none call offer (needs.Look peer number) reply is = sym (ap (λ r. as_steps (is_made r)) is.0)
@@ -49,16 +54,24 @@ unasked_is_none call offer need reply is = absurd is
 -- it is noted as a step of a peer if its answer says so
 steps_are : (call : Call) (offer : Option Offer) (need : Need) (reply : Reply) (step : Made) → IsMade call offer need reply step
     → steps_of step ≡ as_steps (is_made reply)
-steps_are call offer need reply (mades.Datagram peer octets now (Ok step) onwards) made = sym (ap (λ r. as_steps (is_made r)) made.1)
-steps_are call offer need reply (mades.Datagram peer octets now (Err error) onwards) made = sym (ap (λ r. as_steps (is_made r)) made.1)
-steps_are call offer need reply (mades.OpenIn peer name head payload now challenge (Ok step) onwards) made = sym (ap (λ r. as_steps (is_made r)) made.1)
-steps_are call offer need reply (mades.OpenIn peer name head payload now challenge (Err error) onwards) made = sym (ap (λ r. as_steps (is_made r)) made.1)
+steps_are call offer need reply (mades.Datagram peer octets now (Ok step) onwards) made =
+    sym (ap (λ r. as_steps (is_made r)) made.1)
+steps_are call offer need reply (mades.Datagram peer octets now (Err error) onwards) made =
+    sym (ap (λ r. as_steps (is_made r)) made.1)
+steps_are call offer need reply (mades.OpenIn peer name head payload now challenge (Ok step) onwards) made =
+    sym (ap (λ r. as_steps (is_made r)) made.1)
+steps_are call offer need reply (mades.OpenIn peer name head payload now challenge (Err error) onwards) made =
+    sym (ap (λ r. as_steps (is_made r)) made.1)
 steps_are call offer need reply (mades.RejectNew peer head payload (Ok step)) made = sym (ap (λ r. as_steps (is_made r)) made.1)
 steps_are call offer need reply (mades.RejectNew peer head payload (Err error)) made = sym (ap (λ r. as_steps (is_made r)) made.1)
-steps_are call offer need reply (mades.OpenOut peer name called caller format now (Ok step)) made = sym (ap (λ r. as_steps (is_made r)) made.1)
-steps_are call offer need reply (mades.OpenOut peer name called caller format now (Err error)) made = sym (ap (λ r. as_steps (is_made r)) made.1)
-steps_are call offer need reply (mades.Order peer name kind media now (Ok step)) made = sym (ap (λ r. as_steps (is_made r)) made.2)
-steps_are call offer need reply (mades.Order peer name kind media now (Err error)) made = sym (ap (λ r. as_steps (is_made r)) made.2)
+steps_are call offer need reply (mades.OpenOut peer name called caller format now (Ok step)) made =
+    sym (ap (λ r. as_steps (is_made r)) made.1)
+steps_are call offer need reply (mades.OpenOut peer name called caller format now (Err error)) made =
+    sym (ap (λ r. as_steps (is_made r)) made.1)
+steps_are call offer need reply (mades.Order peer name kind media now (Ok step)) made =
+    sym (ap (λ r. as_steps (is_made r)) made.2)
+steps_are call offer need reply (mades.Order peer name kind media now (Err error)) made =
+    sym (ap (λ r. as_steps (is_made r)) made.2)
 steps_are call offer need reply (mades.Tick peer now (Ok report)) made = sym (ap (λ r. as_steps (is_made r)) made.1)
 steps_are call offer need reply (mades.Tick peer now (Err spent)) made = sym (ap (λ r. as_steps (is_made r)) made.1)
 steps_are call offer need reply (mades.Look peer number answer) made = sym (ap (λ r. as_steps (is_made r)) made.1)
@@ -75,12 +88,16 @@ denial_is : (call : Call) (offer : Option Offer) (need : Need) (reply : Reply) (
     → (IsUnasked call offer need reply → ⊥) → denial_by step ≡ denial_of reply
 denial_is call offer need reply (mades.Datagram peer octets now (Ok step) onwards) made asked = sym (ap denial_of made.1)
 denial_is call offer need reply (mades.Datagram peer octets now (Err error) onwards) made asked = sym (ap denial_of made.1)
-denial_is call offer need reply (mades.OpenIn peer name head payload now challenge (Ok step) onwards) made asked = sym (ap denial_of made.1)
-denial_is call offer need reply (mades.OpenIn peer name head payload now challenge (Err error) onwards) made asked = sym (ap denial_of made.1)
+denial_is call offer need reply (mades.OpenIn peer name head payload now challenge (Ok step) onwards) made asked =
+    sym (ap denial_of made.1)
+denial_is call offer need reply (mades.OpenIn peer name head payload now challenge (Err error) onwards) made asked =
+    sym (ap denial_of made.1)
 denial_is call offer need reply (mades.RejectNew peer head payload (Ok step)) made asked = sym (ap denial_of made.1)
 denial_is call offer need reply (mades.RejectNew peer head payload (Err error)) made asked = sym (ap denial_of made.1)
-denial_is call offer need reply (mades.OpenOut peer name called caller format now (Ok step)) made asked = sym (ap denial_of made.1)
-denial_is call offer need reply (mades.OpenOut peer name called caller format now (Err error)) made asked = sym (ap denial_of made.1)
+denial_is call offer need reply (mades.OpenOut peer name called caller format now (Ok step)) made asked =
+    sym (ap denial_of made.1)
+denial_is call offer need reply (mades.OpenOut peer name called caller format now (Err error)) made asked =
+    sym (ap denial_of made.1)
 denial_is call offer need reply (mades.Order peer name kind media now (Ok step)) made asked = sym (ap denial_of made.2)
 denial_is call offer need reply (mades.Order peer name kind media now (Err error)) made asked = sym (ap denial_of made.2)
 denial_is call offer need reply (mades.Tick peer now (Ok report)) made asked = sym (ap denial_of made.1)
@@ -105,18 +122,21 @@ no_stranger (Some OfHangUp) denies = denies
 no_stranger None denies = denies
 
 -- no step of a call says that its sender is a stranger
-pub never_stranger : (A B : Type 0) (begun : Option Beginning) (denial : Option Denial) → MatchOption denial A (λ why. B × Denies begun why)
+pub never_stranger : (A B : Type 0) (begun : Option Beginning) (denial : Option Denial)
+    → MatchOption denial A (λ why. B × Denies begun why)
     → denial ≡ Some (denials.Call refusals.Stranger) → ⊥
 never_stranger A B begun None may is = cc
 never_stranger A B begun (Some (denials.Call refusals.Stranger)) may is = no_stranger begun may.1
 never_stranger A B begun (Some why) may is = cc
 
 -- a peer that has the endpoint is among those of the plan
-pub found_among : (peers : List Peer) (place : ℕ) (from : Endpoint) → option_map (λ peer. peer.endpoint) (slice_get peers place) ≡ Some from
+pub found_among : (peers : List Peer) (place : ℕ) (from : Endpoint) → option_map (λ peer. peer.endpoint) (slice_get peers place)
+    ≡ Some from
     → All (λ peer. peer.endpoint ≢ from) peers → ⊥
 found_among [] place from found all = cc
 found_among (peer ∷ peers) zero from found all = all 0 peer (omega arith) (unsome found)
-found_among (peer ∷ peers) (suc place) from found all = found_among peers place from found (λ k d within. all (suc k) d (omega (arith, within)))
+found_among (peer ∷ peers) (suc place) from found all = found_among peers place from found
+    (λ k d within. all (suc k) d (omega (arith, within)))
 
 -- ---- at a place
 
@@ -140,7 +160,8 @@ peer_needed need = 0
 
 -- a first step at a peer of the plan asks a locked state
 asked_first : (call : Call) (offer : Option Offer) (place : Place) (need : Need) (reply : Reply) → next_at place ≡ Some need
-    → is_some (beginning_at place) ≡ true → PlaceInPlan (length call.plan.peers) place → CalledIsGiven call place → IsUnasked call offer need reply → ⊥
+    → is_some (beginning_at place) ≡ true → PlaceInPlan (length call.plan.peers) place → CalledIsGiven call place
+    → IsUnasked call offer need reply → ⊥
 asked_first call offer (places.Datagram peer) (needs.Datagram other) reply next first within given unasked = unasked
 asked_first call offer (places.ReserveIn peer) (needs.Reserve other) reply next first within given unasked = unasked
 asked_first call offer (places.RejectNew peer) (needs.RejectNew other) reply next first within given unasked = unasked
@@ -157,7 +178,8 @@ asked_first call offer (places.OpenCall name) (needs.OpenOut other) reply next f
 asked_first call offer place need reply next first within given unasked = absurd (cc)
 
 -- a lease that is returned asks the book
-asked_over : (call : Call) (offer : Option Offer) (place : Place) (need : Need) (reply : Reply) → next_at place ≡ Some need → is_over place ≡ true
+asked_over : (call : Call) (offer : Option Offer) (place : Place) (need : Need) (reply : Reply) → next_at place ≡ Some need
+    → is_over place ≡ true
     → IsUnasked call offer need reply → ⊥
 asked_over call offer (places.GiveBack name) (needs.Release other) reply next over unasked = unasked
 asked_over call offer place need reply next over unasked = absurd (cc)
@@ -174,14 +196,16 @@ is_rejecting (places.RejectNew peer) = true
 is_rejecting place = false
 
 -- its rejection is made, or denies the call
-rejecting_denies : (place : Place) (reply : Reply) → is_rejecting place ≡ true → is_answer (next_at place) reply ≡ true → is_made reply ≡ false
+rejecting_denies : (place : Place) (reply : Reply) → is_rejecting place ≡ true → is_answer (next_at place) reply ≡ true
+    → is_made reply ≡ false
     → denial_of reply ≡ None → ⊥
 rejecting_denies (places.RejectNew peer) (replies.RejectNew (Ok done)) here answers unmade none = cc
 rejecting_denies (places.RejectNew peer) (replies.RejectNew (Err error)) here answers unmade none = cc
 rejecting_denies place reply here answers unmade none = cc
 
 -- what isn't refused denies nothing, unless it leads to a rejection
-unrefused_denies_none : (place : Place) (reply : Reply) (rest : Rest) → is_refusal place reply ≡ false → is_rejecting (told_at place reply rest).place ≡ false
+unrefused_denies_none : (place : Place) (reply : Reply) (rest : Rest) → is_refusal place reply ≡ false
+    → is_rejecting (told_at place reply rest).place ≡ false
     → denial_of reply ≡ None
 unrefused_denies_none place (replies.Datagram (Ok heard)) rest further clear = refl
 unrefused_denies_none place (replies.Datagram (Err peer_errors.NeedsNumber)) rest further clear = refl
@@ -224,8 +248,10 @@ steps_longer [] step = omega arith
 steps_longer (first ∷ rest) step = let e = steps_longer rest step in omega arith
 
 -- no step of a peer, or some, are made in one more
-none_longer : (steps : List Made) (step : Made) (made : Bool) → steps_in steps ≡ 0 → steps_of step ≡ as_steps made → made ≡ false → steps_in (steps ++ step ∷ []) ≡ 0
-none_longer steps step made none is unmade = let longer = steps_longer steps step in let zero = is ∙ ap as_steps unmade in omega (arith, longer, zero, none)
+none_longer : (steps : List Made) (step : Made) (made : Bool) → steps_in steps ≡ 0 → steps_of step ≡ as_steps made → made ≡ false
+    → steps_in (steps ++ step ∷ []) ≡ 0
+none_longer steps step made none is unmade = let longer = steps_longer steps step in let zero = is ∙ ap as_steps unmade in
+    omega (arith, longer, zero, none)
 
 some_longer : (steps : List Made) (step : Made) → 1 ≤ steps_of step → 1 ≤ steps_in (steps ++ step ∷ [])
 some_longer steps step some = let longer = steps_longer steps step in omega (arith, longer, some)
@@ -241,7 +267,8 @@ denied_if_none : (steps : List Made) → steps_in steps ≡ 0 → denied_by step
 denied_if_none steps none = ap (λ n. unless_made n (last_of denial_by steps None)) none
 
 -- with one more that makes none
-denied_longer : (steps : List Made) (step : Made) (before : Option Denial) → before ≡ denied_by steps → steps_in steps ≡ 0 → steps_in (steps ++ step ∷ []) ≡ 0
+denied_longer : (steps : List Made) (step : Made) (before : Option Denial) → before ≡ denied_by steps → steps_in steps ≡ 0
+    → steps_in (steps ++ step ∷ []) ≡ 0
     → denied_by (steps ++ step ∷ []) ≡ option_or (denial_by step) before
 denied_longer steps step before is none still =
     denied_if_none (steps ++ step ∷ []) still ∙ last_longer denial_by steps step None
@@ -259,18 +286,23 @@ no_some_none (Some x) is = absurd (cc)
 is_some_of : {A : Type 0} (o : Option A) (x : A) → o ≡ Some x → is_some o ≡ true
 is_some_of o x is = ap is_some is
 
-pub denied_more : MadeIsPast → GoesOn → PastStays → RefusedIsOver → OverStays → (call : Call) (offer : Option Offer) (need : Need) (reply : Reply) (first old new : Noted)
-    (work after : Work) (before after_denial : Option Denial) → next_of work ≡ Some need → is_answer (next_of work) reply ≡ true → Makes call offer need reply old new
-    → PlaceInPlan (length call.plan.peers) work.place → CalledIsGiven call work.place → after ≡ after_told work reply → after_denial ≡ noted (beginning_at work.place) reply before
+pub denied_more : MadeIsPast → GoesOn → PastStays → RefusedIsOver → OverStays → (call : Call) (offer : Option Offer) (need : Need)
+    (reply : Reply) (first old new : Noted)
+    (work after : Work) (before after_denial : Option Denial) → next_of work ≡ Some need → is_answer (next_of work) reply ≡ true
+    → Makes call offer need reply old new
+    → PlaceInPlan (length call.plan.peers) work.place → CalledIsGiven call work.place → after ≡ after_told work reply
+    → after_denial ≡ noted (beginning_at work.place) reply before
     → DeniedSince first old work.place before → DeniedSince first new after.place after_denial
-denied_more made_past goes_on past_stays refused_over over_stays call offer need reply first old new work after before after_denial next answers makes within given told is since =
+denied_more made_past goes_on past_stays refused_over over_stays call offer need reply first old new work after before
+    after_denial next answers makes within given told is since =
     rw told (rw is (go (beginning_at work.place) refl))
   where
     all : List Made
     all = since.steps ++ makes.step ∷ []
 
     all_noted : new.made ≡ first.made ++ all
-    all_noted = makes.noted.made ∙ ap (λ made. made ++ makes.step ∷ []) since.noted ∙ append_assoc first.made since.steps (makes.step ∷ [])
+    all_noted = makes.noted.made ∙ ap (λ made. made ++ makes.step ∷ []) since.noted ∙ append_assoc first.made since.steps
+        (makes.step ∷ [])
 
     counts : steps_of makes.step ≡ as_steps (is_made reply)
     counts = steps_are call offer need reply makes.step makes.made
@@ -279,7 +311,8 @@ denied_more made_past goes_on past_stays refused_over over_stays call offer need
     next_place = (after_told work reply).place
 
     -- a step of a peer was made
-    made_so : (denial : Option Denial) → denial ≡ None → 1 ≤ steps_in all → beginning_at next_place ≡ None → DeniedSince first new next_place denial
+    made_so : (denial : Option Denial) → denial ≡ None → 1 ≤ steps_in all → beginning_at next_place ≡ None
+        → DeniedSince first new next_place denial
     made_so denial none some past = record {
       steps = all;
       noted = all_noted;
@@ -290,7 +323,8 @@ denied_more made_past goes_on past_stays refused_over over_stays call offer need
     }
 
     -- none was
-    unmade_first : (begun : Beginning) → beginning_at work.place ≡ Some begun → is_made reply ≡ false → DeniedSince first new next_place (denial_of reply)
+    unmade_first : (begun : Beginning) → beginning_at work.place ≡ Some begun → is_made reply ≡ false
+        → DeniedSince first new next_place (denial_of reply)
     unmade_first begun began unmade =
         let starts = is_some_of (beginning_at work.place) begun began in
         let none = since.begins starts in
@@ -314,22 +348,26 @@ denied_more made_past goes_on past_stays refused_over over_stays call offer need
             at_place false here = since.clear starts here
             at_place true here = absurd (rejecting_denies work.place reply here answers unmade none)
 
-        first_clear : (begun : Beginning) → beginning_at work.place ≡ Some begun → is_made reply ≡ false → (b : Bool) → is_refusal work.place reply ≡ b
+        first_clear : (begun : Beginning) → beginning_at work.place ≡ Some begun → is_made reply ≡ false → (b : Bool)
+            → is_refusal work.place reply ≡ b
             → is_some (beginning_at next_place) ≡ true → is_rejecting next_place ≡ false → denial_of reply ≡ None
         first_clear begun began unmade false further starts here = unrefused_denies_none work.place reply work.rest further here
         first_clear begun began unmade true refused starts here =
             let past = over_is_past next_place (refused_over work reply begun answers began refused) in
             let never = sym starts ∙ ap is_some past in absurd (cc)
 
-        first_over : (begun : Beginning) → beginning_at work.place ≡ Some begun → is_made reply ≡ false → (b : Bool) → is_refusal work.place reply ≡ b
+        first_over : (begun : Beginning) → beginning_at work.place ≡ Some begun → is_made reply ≡ false → (b : Bool)
+            → is_refusal work.place reply ≡ b
             → beginning_at next_place ≡ None → is_over next_place ≡ true
         first_over begun began unmade true refused past = refused_over work reply begun answers began refused
         first_over begun began unmade false further past =
             let never = sym (goes_on work reply begun answers began unmade further) ∙ past in absurd (cc)
 
-    beginning : (begun : Beginning) → beginning_at work.place ≡ Some begun → (b : Bool) → is_made reply ≡ b → DeniedSince first new next_place (denial_of reply)
+    beginning : (begun : Beginning) → beginning_at work.place ≡ Some begun → (b : Bool) → is_made reply ≡ b
+        → DeniedSince first new next_place (denial_of reply)
     beginning begun began true is_made =
-        made_so (denial_of reply) (made_denies_nothing reply is_made) (some_longer since.steps makes.step (let one = counts ∙ ap as_steps is_made in omega (arith, one)))
+        made_so (denial_of reply) (made_denies_nothing reply is_made)
+        (some_longer since.steps makes.step (let one = counts ∙ ap as_steps is_made in omega (arith, one)))
         (made_past work reply answers is_made)
     beginning begun began false unmade = unmade_first begun began unmade
 
@@ -337,17 +375,20 @@ denied_more made_past goes_on past_stays refused_over over_stays call offer need
     later : beginning_at work.place ≡ None → (n : ℕ) → steps_in since.steps ≡ n → DeniedSince first new next_place before
     later past (suc n) some =
         let more : 1 ≤ steps_in since.steps = omega (arith, some) in
-        made_so before (since.denied ∙ made_by (steps_in since.steps) (last_of denial_by since.steps None) more) (still_some since.steps makes.step more)
+        made_so before (since.denied ∙ made_by (steps_in since.steps) (last_of denial_by since.steps None) more)
+        (still_some since.steps makes.step more)
         (past_stays work reply past)
     later past zero none =
         let over = since.over (ap is_some past) none in
         let rest = over_denies_none work.place reply over answers in
         let still = none_longer since.steps makes.step (is_made reply) none counts rest.0 in
-        let here = denial_is call offer need reply makes.step makes.made (asked_over call offer work.place need reply next over) in
+        let here = denial_is call offer need reply makes.step makes.made (asked_over call offer work.place need reply next
+        over) in
         record {
           steps = all;
           noted = all_noted;
-          denied = ap (λ o. option_or o before) (sym (here ∙ rest.1)) ∙ sym (denied_longer since.steps makes.step before since.denied none still);
+          denied = ap (λ o. option_or o before) (sym (here ∙ rest.1)) ∙ sym (denied_longer since.steps makes.step before
+              since.denied none still);
           begins = λ starts. let never = sym starts ∙ ap is_some (past_stays work reply past) in absurd (cc);
           clear = λ starts _. let never = sym starts ∙ ap is_some (past_stays work reply past) in absurd (cc);
           over = λ _ _. over_stays work reply over;

@@ -5,6 +5,8 @@ mod Starting
 mod Media
 mod Carrying
 mod FirstSteps
+mod FirstPeers
 mod Leaving
 mod Denying
 mod Tracing
+pub mod Sending

@@ -28,17 +28,24 @@ effect_silent name Refused = record { within = λ len. tt; none = refl }
 effect_silent name Challenges = record { within = λ len. tt; none = refl }
 effect_silent name Offers = record { within = λ len. (tt, tt); none = refl }
 
-opens_silent : (peer : PeerView) (name : LegName) (frame : FullFrame) (now : ℕ) (challenge : List ℕ) → IsSilent (opens_in peer name frame now challenge).signals
+opens_silent : (peer : PeerView) (name : LegName) (frame : FullFrame) (now : ℕ) (challenge : List ℕ)
+    → IsSilent (opens_in peer name frame now challenge).signals
 opens_silent peer name frame now challenge =
     let opening = opening_of peer.rules frame in
     let effect = opening_effect opening in
     let leg = leg_for_new peer.rules name.number frame now challenge in
-    cond_both (is_reply effect.answer && is_full leg.window) (no_room leg) (answered effect.answer (taken effect leg frame New now) frame now effect.signal)
+    cond_both (is_reply effect.answer && is_full leg.window) (no_room leg)
+    (answered effect.answer (taken effect leg frame New now) frame now effect.signal)
     (λ (s : Step). IsSilent (handed_up name s.signal))
     (λ _. record { within = λ len. tt; none = refl }) (λ _. effect_silent name opening)
 
-pub opening_takes : (peer : PeerView) (name : LegName) (frame : FullFrame) (now : ℕ) (challenge : List ℕ) (len : ℕ) (old new : Credit) (signals : List (LegName × Signal))
+pub opening_takes : (peer : PeerView) (name : LegName) (frame : FullFrame) (now : ℕ) (challenge : List ℕ) (len : ℕ)
+    (old new : Credit) (signals : List (LegName × Signal))
     → signals ≡ (opens_in peer name frame now challenge).signals → new ≡ with_step old 0 → TakesCredit len old new signals
 opening_takes peer name frame now challenge len old new signals are credit =
     let silent = opens_silent peer name frame now challenge in
-    rw are (record { within = silent.within len; octets = ap (λ (c : Credit). c.octets) credit ∙ ap (λ n. old.octets + n) (sym silent.none) })
+    rw are (record {
+      within = silent.within len;
+      octets = ap (λ (c : Credit). c.octets) credit ∙ ap (λ n. old.octets + n)
+          (sym silent.none);
+    })

@@ -1,5 +1,6 @@
 -- Which datagrams need a number for their leg.
-use Rattle.std.proofs.Common.{◌≡◌, ◌⊎◌, ℕ, Bool, true, false, List, Option, None, Some, Result, Ok, Err, inl, inr, refl, subst, arith, if◌then◌else◌}
+use Rattle.std.proofs.Common.{◌≡◌, ◌⊎◌, ℕ, Bool, true, false, List, Option, None, Some, Result, Ok, Err, inl, inr, refl, subst}
+use Rattle.std.proofs.Common.{arith, if◌then◌else◌}
 use Rattle.std.specs.Prelude.{◌==◌, ◌&&◌, IfErr}
 use Rattle.std.proofs.lemmas.Bool.Decides.{nat_tests}
 use Rattle.iax_frames.specs.FullFrame.{FullFrame}
@@ -10,7 +11,8 @@ use Rattle.leg_machine.specs.Leg.{is_record_full}
 use Rattle.call_signals.specs.declared.rules.PeerRules.{PeerRules}
 use Rattle.leg_machine.specs.Message.{message_of, is_numbered}
 use Rattle.peer_lock.specs.Arrivals.{datagram_refused, mini_refused}
-use Rattle.peer_lock.specs.Delivery.{Delivery, Gets, NoCall, Pongs, delivered, delivery_refused, found, inval_for, is_new, is_poke, is_registration, pong_for, regrej_for, unknown_call}
+use Rattle.peer_lock.specs.Delivery.{Delivery, Gets, NoCall, Pongs, delivered, delivery_refused, found, inval_for, is_new}
+use Rattle.peer_lock.specs.Delivery.{is_poke, is_registration, pong_for, regrej_for, unknown_call}
 use Rattle.peer_lock.specs.Delivery.{newcomer as newcomer_at}
 use Rattle.peer_lock.specs.Legs.{NamedLeg, leg_of_remote}
 use Rattle.peer_lock.specs.Makes.{IsDue}
@@ -41,7 +43,8 @@ mini_needs_none (Some named) why = grind (arith, why)
 abbrev unknown : (nowhere new first poked registers numbered : Bool) (head : FullHead) (comes : Delivery) → Delivery
 unknown nowhere new first poked registers numbered head comes =
     if nowhere
-    then (if new && first then comes else if poked then Gets (pong_for head) else if registers then Gets (regrej_for head) else NoCall)
+    then (if new && first then comes else if poked then Gets (pong_for head) else if registers then Gets (regrej_for head)
+    else NoCall)
     else (if numbered then Gets (inval_for head) else NoCall)
 
 tests : (nowhere new first poked registers numbered : Bool) (head : FullHead) (comes : Delivery)
@@ -61,18 +64,23 @@ number_of : (n : ℕ) → (n == 0) ≡ true → n ≡ 0
 number_of n is = grind (arith, nat_tests, is)
 
 -- a PONG to a POKE needs none
-no_pong : (own counts : Bool) (rest : Delivery) → IsDue (delivery_refused (if own then (if counts then Pongs else NoCall) else rest)) errors.NeedsNumber
+no_pong : (own counts : Bool) (rest : Delivery)
+    → IsDue (delivery_refused (if own then (if counts then Pongs else NoCall) else rest)) errors.NeedsNumber
     → IsDue (delivery_refused rest) errors.NeedsNumber
 no_pong true true rest why = grind (arith, why)
 no_pong true false rest why = grind (arith, why)
 no_pong false counts rest why = why
 
-newcomer : (drains : Bool) (rules : PeerRules) (pokes : Pokes) (frame : FullFrame) (now : ℕ) (at : Option NamedLeg) → IsDue (delivery_refused (delivered drains rules pokes at frame now)) errors.NeedsNumber → IsNewcomer frame
+newcomer : (drains : Bool) (rules : PeerRules) (pokes : Pokes) (frame : FullFrame) (now : ℕ) (at : Option NamedLeg)
+    → IsDue (delivery_refused (delivered drains rules pokes at frame now)) errors.NeedsNumber → IsNewcomer frame
 newcomer drains rules pokes frame now (Some named) why = absurd (at_leg (is_record_full named.leg) why)
 newcomer drains rules pokes frame now None why =
-    let other = no_pong (is_own_pong rules frame.head) (answers_poke pokes frame.head) (unknown_call drains rules frame now) why in
-    let are = tests (frame.head.destination == 0) (is_new (message_of frame.head)) (frame.head.oseqno == 0) (rules.poke && is_poke (message_of frame.head))
-    (rules.is_hardened && is_registration frame.head) (is_numbered (message_of frame.head)) frame.head (newcomer_at drains rules.call_tokens frame now) other in
+    let other = no_pong (is_own_pong rules frame.head) (answers_poke pokes frame.head) (unknown_call drains rules frame now)
+    why in
+    let are = tests (frame.head.destination == 0) (is_new (message_of frame.head)) (frame.head.oseqno == 0)
+    (rules.poke && is_poke (message_of frame.head))
+    (rules.is_hardened && is_registration frame.head) (is_numbered (message_of frame.head)) frame.head
+    (newcomer_at drains rules.call_tokens frame now) other in
     record { destination = number_of frame.head.destination are.0; first = number_of frame.head.oseqno are.2; new = are.1 }
 
 module _ (credit made : ℕ) (octets : List ℕ) (peer : PeerView) (now : ℕ) where
@@ -82,7 +90,8 @@ module _ (credit made : ℕ) (octets : List ℕ) (peer : PeerView) (now : ℕ) w
   unworked (spare, short, (Video video, spelled, none)) = none
   unworked (spare, short, (Trunk trunk, spelled, none)) = none
 
-  opens : (d : Datagram) → IsWorked credit made octets d → IsDue (datagram_refused peer d now) errors.NeedsNumber → SpellsOpening octets
+  opens : (d : Datagram) → IsWorked credit made octets d → IsDue (datagram_refused peer d now) errors.NeedsNumber
+      → SpellsOpening octets
   opens (Full frame) worked why =
       let is = newcomer peer.drains peer.rules peer.pokes frame now (found peer.legs frame) why in
       record {
@@ -94,15 +103,18 @@ module _ (credit made : ℕ) (octets : List ℕ) (peer : PeerView) (now : ℕ) w
   opens (Video video) worked why = absurd (at_leg false why)
   opens (Trunk trunk) worked why = absurd (at_leg false why)
 
-  of_refusal : IsUnworked credit made octets errors.NeedsNumber ⊎ ((d : Datagram) × IsWorked credit made octets d × IsDue (datagram_refused peer d now) errors.NeedsNumber)
+  of_refusal : IsUnworked credit made octets errors.NeedsNumber ⊎ ((d : Datagram) × IsWorked credit made octets d ×
+      IsDue (datagram_refused peer d now) errors.NeedsNumber)
       → SpellsOpening octets
   of_refusal (inl why) = absurd (unworked why)
   of_refusal (inr why) = opens why.0 why.1 why.2
 
   -- a datagram that needs a number spells a NEW that opens a leg
   pub needs_opening : (result : Result Step PeerError)
-      → IfErr result (λ e. IsUnworked credit made octets e ⊎ ((d : Datagram) × IsWorked credit made octets d × IsDue (datagram_refused peer d now) e))
+      → IfErr result (λ e. IsUnworked credit made octets e ⊎ ((d : Datagram) × IsWorked credit made octets d ×
+      IsDue (datagram_refused peer d now) e))
       → IfErr result (λ e. e ≡ errors.NeedsNumber → SpellsOpening octets)
   needs_opening (Ok step) there = there
   needs_opening (Err e) there =
-      λ same. of_refusal (subst (λ (x : PeerError). IsUnworked credit made octets x ⊎ ((d : Datagram) × IsWorked credit made octets d × IsDue (datagram_refused peer d now) x)) same there)
+      λ same. of_refusal (subst (λ (x : PeerError). IsUnworked credit made octets x ⊎
+      ((d : Datagram) × IsWorked credit made octets d × IsDue (datagram_refused peer d now) x)) same there)

@@ -3,12 +3,12 @@ use Rattle.std.specs.Option.{option_or}
 use Rattle.std.specs.Prelude.{◌≡◌, List, [], ◌∷◌, ◌++◌, Option, Some, refl}
 use Rattle.std.proofs.Common.{append_assoc, append-nil, ap, drop, length, sym, ◌∙◌}
 use Rattle.std.proofs.Math.Seq.{drop-append_seam}
-use Rattle.call_steps.specs.Work.{next_of}
-use Rattle.call_steps.specs.WorkState.{WorkState, offer_in}
-use Rattle.call_steps.specs.declared.need.Need.{Need}
-use Rattle.call_steps.specs.declared.reply.Reply.{Reply}
-use Rattle.noted_steps.specs.Notes.{Noted}
-use Rattle.noted_steps.specs.declared.made.Made.{Made}
+use Rattle.call_control.specs.Work.{next_of}
+use Rattle.call_control.specs.WorkState.{WorkState, offer_in}
+use Rattle.call_control.specs.declared.need.Need.{Need}
+use Rattle.call_control.specs.declared.reply.Reply.{Reply}
+use Rattle.step_log.specs.Notes.{Noted}
+use Rattle.step_log.specs.declared.made.Made.{Made}
 use Rattle.exchange_core.specs.Since.{last_of, noted_since}
 use Rattle.exchange_core.specs.Traces.{Call, IsMade, IsTrace, Makes, Traces, told}
 
@@ -27,7 +27,8 @@ pub traces_longer : (call : Call) (from to : WorkState) (need : Need) (reply : R
     → Traces call from (told to reply) first new
 traces_longer call from to need reply first old new traces next makes = record {
   steps = traces.steps ++ makes.step ∷ [];
-  noted = makes.noted.made ∙ ap (λ made. made ++ makes.step ∷ []) traces.noted ∙ append_assoc first.made traces.steps (makes.step ∷ []);
+  noted = makes.noted.made ∙ ap (λ made. made ++ makes.step ∷ []) traces.noted ∙ append_assoc first.made traces.steps
+      (makes.step ∷ []);
   begun = makes.noted.begun ∙ traces.begun;
   trace = trace_longer call from traces.steps to need reply makes.step traces.trace next makes.made;
 }

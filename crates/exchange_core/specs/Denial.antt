@@ -1,11 +1,11 @@
 -- The reason why a call is refused: by the answer to one of its first steps, and by the notes of its steps.
 use Rattle.std.specs.Prelude.{ℕ, zero, suc, List, Option, None, Some, Err, option_map}
-use Rattle.call_steps.specs.Beginnings.{Beginning, OfDatagram, OfTick, OfCall, OfHangUp}
-use Rattle.call_steps.specs.declared.reply.Reply.{Reply}
-use Rattle.call_steps.specs.declared.reply.Reply.TheVariants as replies
-use Rattle.noted_steps.specs.Notes.{Noted, steps_in}
-use Rattle.noted_steps.specs.declared.made.Made.{Made}
-use Rattle.noted_steps.specs.declared.made.Made.TheVariants as mades
+use Rattle.call_control.specs.Beginnings.{Beginning, OfDatagram, OfTick, OfCall, OfHangUp}
+use Rattle.call_control.specs.declared.reply.Reply.{Reply}
+use Rattle.call_control.specs.declared.reply.Reply.TheVariants as replies
+use Rattle.step_log.specs.Notes.{Noted, steps_in}
+use Rattle.step_log.specs.declared.made.Made.{Made}
+use Rattle.step_log.specs.declared.made.Made.TheVariants as mades
 use Rattle.exchange_core.specs.Refusals.{from_peer, from_open, from_reject, from_reserve}
 use Rattle.exchange_core.specs.Since.{last_of, noted_since}
 use Rattle.exchange_core.specs.declared.answers.Refusal.{Refusal}

@@ -3,12 +3,12 @@ use Rattle.std.specs.Prelude.{◌≡◌, ℕ, ◌<◌, Option, None, Some, Ok, E
 use Rattle.call_book.specs.declared.leg_name.LegName.{LegName}
 use Rattle.peer_lock.specs.Accounts.{Credit, with_step}
 use Rattle.peer_lock.specs.declared.errors.PeerError.TheVariants as peer_errors
-use Rattle.call_steps.specs.declared.need.Need.{Need}
-use Rattle.call_steps.specs.declared.need.Need.TheVariants as needs
-use Rattle.call_steps.specs.declared.place.Place.{Place}
-use Rattle.call_steps.specs.declared.place.Place.TheVariants as places
-use Rattle.call_steps.specs.declared.reply.Reply.{Reply}
-use Rattle.call_steps.specs.declared.reply.Reply.TheVariants as replies
+use Rattle.call_control.specs.declared.need.Need.{Need}
+use Rattle.call_control.specs.declared.need.Need.TheVariants as needs
+use Rattle.call_control.specs.declared.place.Place.{Place}
+use Rattle.call_control.specs.declared.place.Place.TheVariants as places
+use Rattle.call_control.specs.declared.reply.Reply.{Reply}
+use Rattle.call_control.specs.declared.reply.Reply.TheVariants as replies
 use Rattle.exchange_core.specs.declared.denial.Denial.{Denial}
 
 -- a call begins here, at one of the plan's peers

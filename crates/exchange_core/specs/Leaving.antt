@@ -3,14 +3,14 @@ use Rattle.std.specs.Prelude.{◌≡◌, ℕ, List, [], ◌∷◌, ◌++◌, Opt
 use Rattle.std.specs.Option.{option_to_list}
 use Rattle.call_book.specs.declared.leg_name.LegName.{LegName}
 use Rattle.call_book.specs.declared.errors.Stale.{Stale}
-use Rattle.noted_steps.specs.Notes.{Noted}
-use Rattle.noted_steps.specs.declared.made.Made.{Made}
-use Rattle.noted_steps.specs.declared.made.Made.TheVariants as mades
+use Rattle.step_log.specs.Notes.{Noted}
+use Rattle.step_log.specs.declared.made.Made.{Made}
+use Rattle.step_log.specs.declared.made.Made.TheVariants as mades
 use Rattle.peer_lock.specs.declared.steps.EndedLeg.{EndedLeg}
 use Rattle.peer_lock.specs.declared.steps.LegFacts.{LegFacts}
 use Rattle.seq_window.specs.Entry.{Entry}
 use Rattle.exchange_core.specs.declared.answers.Retired.{Retired}
-use Rattle.exchange_core.specs.declared.leavers.Leavers.{Leavers}
+use Rattle.exchange_core.specs.declared.retired_legs.RetiredLegs.{RetiredLegs}
 
 -- a leg that was taken out, as an answer has it: its name, its facts, its record, the moment, and its former partner
 pub record Departure : Type 0 where
@@ -39,8 +39,11 @@ pub record Leaving : Type 0 where
 abbrev pub nobody : Leaving
 nobody = record { last = None; gone = [] }
 
-abbrev pub leaving_of : Leavers → Leaving
-leaving_of leavers = record { last = option_map departure_of leavers.last; gone = map departure_of leavers.gone.items }
+abbrev pub leaving_of : RetiredLegs → Leaving
+leaving_of retired_legs = record {
+  last = option_map departure_of retired_legs.last;
+  gone = map departure_of retired_legs.gone.items;
+}
 
 -- the former partner, if the book took the name back and returned one
 abbrev pub former_of : Result (Option LegName) Stale → Option LegName

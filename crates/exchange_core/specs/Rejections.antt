@@ -1,10 +1,10 @@
 -- The rejections in the answers of a call's steps ("REJECT", "REGREJ").
 use Rattle.std.specs.Prelude.{Option, None, Some, Ok}
-use Rattle.call_steps.specs.declared.reply.Reply.{Reply}
-use Rattle.call_steps.specs.declared.reply.Reply.TheVariants as replies
-use Rattle.noted_steps.specs.Notes.{Noted}
-use Rattle.noted_steps.specs.declared.made.Made.{Made}
-use Rattle.noted_steps.specs.declared.made.Made.TheVariants as mades
+use Rattle.call_control.specs.declared.reply.Reply.{Reply}
+use Rattle.call_control.specs.declared.reply.Reply.TheVariants as replies
+use Rattle.step_log.specs.Notes.{Noted}
+use Rattle.step_log.specs.declared.made.Made.{Made}
+use Rattle.step_log.specs.declared.made.Made.TheVariants as mades
 use Rattle.peer_lock.specs.declared.steps.Rejection.{Rejection}
 use Rattle.peer_lock.specs.declared.steps.Rejection.TheVariants.{NoNumber}
 use Rattle.exchange_core.specs.Since.{last_of, noted_since}

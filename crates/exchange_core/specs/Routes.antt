@@ -7,8 +7,8 @@ use Rattle.call_signals.specs.declared.rules.PeerRules.{PeerRules}
 use Rattle.peer_accounts.specs.declared.onwards.Offer.{Offer}
 use Rattle.peer_plan.specs.Plan.{PlanView, fits, IsNearest}
 use Rattle.peer_plan.specs.declared.route.Route.{Route as Way}
-use Rattle.call_steps.specs.declared.need.Route.{Route}
-use Rattle.call_steps.specs.declared.need.Route.TheVariants as routes
+use Rattle.call_control.specs.declared.need.Route.{Route}
+use Rattle.call_control.specs.declared.need.Route.TheVariants as routes
 
 -- the peer of the route is one of the plan's
 abbrev pub LeadsInside : Route → ℕ → Type 0

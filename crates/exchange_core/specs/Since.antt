@@ -1,8 +1,8 @@
 -- The steps that a pass has noted since a moment, and the last that they report of a kind.
 use Rattle.std.specs.Option.{option_or}
 use Rattle.std.specs.Prelude.{List, [], ◌∷◌, drop, length, Option}
-use Rattle.noted_steps.specs.Notes.{Noted}
-use Rattle.noted_steps.specs.declared.made.Made.{Made}
+use Rattle.step_log.specs.Notes.{Noted}
+use Rattle.step_log.specs.declared.made.Made.{Made}
 
 -- the steps that a pass has noted since
 abbrev pub noted_since : Noted → Noted → List Made

@@ -1,6 +1,6 @@
 -- Sums over peers and passes.
 use Rattle.std.specs.Prelude.{ℕ, List, sum_by}
-use Rattle.noted_steps.specs.Notes.{Noted, steps_in}
+use Rattle.step_log.specs.Notes.{Noted, steps_in}
 use Rattle.peer_lock.specs.Accounts.{Accounts}
 use Rattle.peer_lock.specs.Peer.{PeerView}
 

@@ -5,19 +5,19 @@ use Rattle.call_book.specs.declared.leg_name.LegName.{LegName}
 use Rattle.call_signals.specs.Caller.{numbered}
 use Rattle.call_signals.specs.Format.{lowest_format}
 use Rattle.call_signals.specs.declared.format.Format.{Format}
-use Rattle.call_steps.specs.Act.{act_kind, act_media}
-use Rattle.call_steps.specs.Work.{next_of, after_told, of_datagram}
-use Rattle.call_steps.specs.WorkState.{WorkState, begun, offer_in, onwards_after}
-use Rattle.call_steps.specs.declared.act.Act.{Act}
-use Rattle.call_steps.specs.declared.need.Need.{Need}
-use Rattle.call_steps.specs.declared.need.Need.TheVariants as needs
-use Rattle.call_steps.specs.declared.reply.Heard.{Heard}
-use Rattle.call_steps.specs.declared.reply.Reply.{Reply}
-use Rattle.call_steps.specs.declared.reply.Reply.TheVariants as replies
+use Rattle.call_control.specs.Act.{act_kind, act_media}
+use Rattle.call_control.specs.Work.{next_of, after_told, of_datagram}
+use Rattle.call_control.specs.WorkState.{WorkState, begun, offer_in, onwards_after}
+use Rattle.call_control.specs.declared.act.Act.{Act}
+use Rattle.call_control.specs.declared.need.Need.{Need}
+use Rattle.call_control.specs.declared.need.Need.TheVariants as needs
+use Rattle.call_control.specs.declared.reply.Heard.{Heard}
+use Rattle.call_control.specs.declared.reply.Reply.{Reply}
+use Rattle.call_control.specs.declared.reply.Reply.TheVariants as replies
 use Rattle.iax_frames.specs.FullFrame.{SpellsFull}
-use Rattle.noted_steps.specs.Notes.{Noted, Notes}
-use Rattle.noted_steps.specs.declared.made.Made.{Made}
-use Rattle.noted_steps.specs.declared.made.Made.TheVariants as mades
+use Rattle.step_log.specs.Notes.{Noted, Notes}
+use Rattle.step_log.specs.declared.made.Made.{Made}
+use Rattle.step_log.specs.declared.made.Made.TheVariants as mades
 use Rattle.peer_accounts.specs.declared.onwards.Offer.{Offer}
 use Rattle.peer_lock.specs.HandedUp.{HandedUp}
 use Rattle.peer_lock.specs.declared.errors.OpenError.{OpenError}
@@ -29,7 +29,7 @@ use Rattle.peer_lock.specs.declared.steps.TickReport.{TickReport}
 use Rattle.peer_plan.specs.Plan.{PlanView}
 use Rattle.peer_plan.specs.declared.endpoint.Endpoint.{Endpoint}
 use Rattle.exchange_core.specs.Routes.{IsRoute, format_for}
-use Rattle.exchange_core.specs.declared.hands.Given.{Given}
+use Rattle.exchange_core.specs.declared.resources.Given.{Given}
 
 -- the inputs of a call
 pub record Call : Type 0 where

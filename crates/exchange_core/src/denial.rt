@@ -1,12 +1,12 @@
 //! The reason why the first step of a call was refused.
 ghost use Rattle.std.specs.Prelude.{◌≡◌, ◌⊎◌, Some, option_map};
-ghost use Rattle.call_steps.specs.Beginnings.{OfDatagram, OfTick, OfCall, OfHangUp};
+ghost use Rattle.call_control.specs.Beginnings.{OfDatagram, OfTick, OfCall, OfHangUp};
 ghost use Rattle.exchange_core.specs.Denial.{Denies, denial_of};
 ghost use Rattle.exchange_core.specs.Refusals.{from_call};
 ghost use Rattle.exchange_core.specs.declared.denial.Denial.TheVariants as Denial;
 
 use crate::answers::{CallError, Refusal};
-use call_steps::Reply;
+use call_control::Reply;
 use peer_lock::OrderError;
 
 /// The reason why the first step of a call was refused.

@@ -1,8 +1,8 @@
 //! The steps of a call, as its table names them, from the first until nothing is left to be done.
 ghost use Rattle.std.specs.Option.{ForSome};
 ghost use Rattle.std.specs.Prelude.{◌≡◌, ◌+◌, ◌<◌, ◌≤◌, [], Some, length, map, IsSome, MatchOption};
-ghost use Rattle.call_steps.specs.Beginnings.{OfCall, OfDatagram, beginning_at};
-ghost use Rattle.call_steps.specs.MediaLeft.{media_left};
+ghost use Rattle.call_control.specs.Beginnings.{OfCall, OfDatagram, beginning_at};
+ghost use Rattle.call_control.specs.MediaLeft.{media_left};
 ghost use Rattle.exchange_core.specs.Denial.{Denies, denied_since};
 ghost use Rattle.exchange_core.specs.FirstSteps.{CallIsMade, StartsInPlan};
 ghost use Rattle.exchange_core.specs.Leaving.{Leave, departure_of};
@@ -13,16 +13,16 @@ ghost use Rattle.exchange_core.specs.Traces.{MakesAll, call_of};
 use crate::denial::Denial;
 use crate::exchange::Exchange;
 use crate::gate::Gate;
-use crate::hands::{Given, Hands, Outcome};
-use crate::leavers::Leavers;
 use crate::rejections::latest;
-use call_steps::Work;
-use call_steps::laws::{leases_are_as_named, media_is_carried_once, refused_calls_end};
-use noted_steps::Pass;
-use peer_lock::Naming;
+use crate::resources::{Given, Outcome, TaskResources};
+use crate::retired_legs::RetiredLegs;
+use call_control::Work;
+use call_control::laws::{leases_are_as_named, media_is_carried_once, refused_calls_end};
+use peer_lock::LedgerSet;
 use std::sync::Wait;
+use step_log::Pass;
 
-impl<G: Gate, J: Naming> Exchange<G, J> {
+impl<G: Gate, J: LedgerSet> Exchange<G, J> {
     // Makes the steps of a call that begins here: each that its table names, and gives the answers to the table. Notes the
     // refusal if an answer to a first step is one. Either a step of a peer was made, or the call is refused and none was.
     pub(crate) fn carry_out<R: Wait>(
@@ -55,25 +55,25 @@ impl<G: Gate, J: Naming> Exchange<G, J> {
         refused_calls_end();
         let first = pass.steps();
         let mut rejected = None;
-        let mut hands = Hands {
+        let mut resources = TaskResources {
             lease: None,
             named: None,
-            leavers: Leavers::none(self.alloc),
+            retired_legs: RetiredLegs::none(self.alloc),
             denial: None,
         };
         for _ in rt.forever() {
             let Some(need) = work.next() else {
                 return Outcome {
                     steps: pass.steps() - first,
-                    denial: hands.denial,
+                    denial: resources.denial,
                     rejected,
-                    named: hands.named,
-                    retired: hands.leavers.into_legs(),
+                    named: resources.named,
+                    retired: resources.retired_legs.into_legs(),
                 };
             };
-            let reply = self.make(rt, pass, work, need, given, &mut hands);
+            let reply = self.make(rt, pass, work, need, given, &mut resources);
             if work.is_beginning() {
-                hands.denial = Denial::of(&reply);
+                resources.denial = Denial::of(&reply);
             }
             rejected = latest(&reply, rejected);
             work.told(reply);

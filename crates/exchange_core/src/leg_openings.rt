@@ -6,29 +6,29 @@ ghost use Rattle.std.specs.Prelude.{slice_get, IfNone, IfOk, IfErr, IfSome, IsSo
 ghost use Rattle.call_signals.specs.Format.{lowest_format};
 ghost use Rattle.exchange_core.specs.Covered.{TakesCredit};
 ghost use Rattle.exchange_core.specs.Newcomers.{SpellsOpening};
-ghost use Rattle.call_steps.specs.declared.need.Need.TheVariants as needs;
-ghost use Rattle.call_steps.specs.declared.reply.Reply.TheVariants as replies;
+ghost use Rattle.call_control.specs.declared.need.Need.TheVariants as needs;
+ghost use Rattle.call_control.specs.declared.reply.Reply.TheVariants as replies;
 ghost use Rattle.exchange_core.specs.Numbers.{IsCalled};
 ghost use Rattle.exchange_core.specs.Traces.{IsCallFor, LacksFormat, Makes, call_of, caller_of};
 ghost use Rattle.iax_frames.specs.FullFrame.{SpellsFull};
-ghost use Rattle.noted_steps.specs.Notes.{Notes, without_lease};
-ghost use Rattle.noted_steps.specs.declared.made.Made.TheVariants as mades;
+ghost use Rattle.step_log.specs.Notes.{Notes, without_lease};
+ghost use Rattle.step_log.specs.declared.made.Made.TheVariants as mades;
 ghost use Rattle.peer_accounts.specs.declared.onwards.Offer.{Offer as OfferValue};
 ghost use Rattle.peer_lock.specs.Accounts.{with_step};
 ghost use Rattle.peer_lock.specs.Openings.{IsOpening};
 
 use crate::exchange::Exchange;
 use crate::gate::Gate;
-use crate::hands::{Given, Hands};
+use crate::resources::{Given, TaskResources};
 use crate::routing::format_for;
 use call_book::{Lease, LegName};
-use call_steps::Heard;
+use call_control::Heard;
 use iax_frames::Full;
 use leg_machine::{Caller, Format};
-use noted_steps::Pass;
-use peer_lock::{Naming, Offer, OpenError, ReadDatagram, RejectError, Step};
+use peer_lock::{LedgerSet, Offer, OpenError, ReadDatagram, RejectError, Step};
 use peer_plan::Plan;
 use std::sync::Wait;
+use step_log::Pass;
 
 // Returns the NEW that a datagram is.
 fn opening_in<'d, 'o>(datagram: &'d ReadDatagram<'o>) -> &'d Full<'o>
@@ -105,7 +105,7 @@ fn outgoing_at<'a>(
     }
 }
 
-impl<G: Gate, J: Naming> Exchange<G, J> {
+impl<G: Gate, J: LedgerSet> Exchange<G, J> {
     // Opens a leg under a lease by a NEW of the exchange.
     fn open_out<R: Wait>(
         &self,
@@ -146,28 +146,28 @@ impl<G: Gate, J: Naming> Exchange<G, J> {
         name: LegName,
         offer: Option<&Offer>,
         given: &Given<'_, '_, '_>,
-        hands: &mut Hands,
+        resources: &mut TaskResources,
     ) -> Result<(), OpenError>
-        requires lease { hands.old.lease ≡ Some name }
+        requires lease { resources.old.lease ≡ Some name }
         requires called { ForSome given.now.called (λ text. IsCalled text.now) }
         ensures noted { Makes (call_of self.now given.entry.now) (option_copied offer.entry) (needs.OpenOut name)
             (replies.OpenOut result) pass.old pass.new }
         ensures credit { OnOk result (pass.new.credit ≡ with_step pass.old.credit 0) ×
             OnErr result (pass.new.credit ≡ pass.old.credit) }
-        ensures lease { OnOk result (hands.new.lease ≡ None) × OnErr result (hands.new.lease ≡ hands.old.lease) }
+        ensures lease { OnOk result (resources.new.lease ≡ None) × OnErr result (resources.new.lease ≡ resources.old.lease) }
         ensures no_remote { result ≢ Err OpenError.RemoteBusy }
-        ensures rest { (hands.new.denial ≡ hands.old.denial) × (hands.new.leavers ≡ hands.old.leavers) ×
-            (hands.new.named ≡ hands.old.named) }
+        ensures rest { (resources.new.denial ≡ resources.old.denial) × (resources.new.retired_legs ≡ resources.old.retired_legs) ×
+            (resources.new.named ≡ resources.old.named) }
     {
         let Some(call) = outgoing_at(&self.plan, name.peer, given.called, offer) else {
             pass.note_unasked();
             return Err(OpenError::NumberBusy);
         };
-        let lease = hands.lease.take().unwrap();
+        let lease = resources.lease.take().unwrap();
         match self.open_out(rt, pass, lease, &call, given.now) {
             Ok(_) => Ok(()),
             Err((lease, error)) => {
-                hands.lease = Some(lease);
+                resources.lease = Some(lease);
                 Err(error)
             }
         }
@@ -180,9 +180,9 @@ impl<G: Gate, J: Naming> Exchange<G, J> {
         pass: &mut Pass<J>,
         name: LegName,
         given: &Given<'_, '_, '_>,
-        hands: &mut Hands,
+        resources: &mut TaskResources,
     ) -> Result<Heard, OpenError>
-        requires lease { hands.old.lease ≡ Some name }
+        requires lease { resources.old.lease ≡ Some name }
         requires peer { name.peer < length self.now.peers }
         requires opening { SpellsOpening given.now.datagram }
         requires challenge { IsSome given.now.challenge }
@@ -193,13 +193,13 @@ impl<G: Gate, J: Naming> Exchange<G, J> {
         // A NEW has no media.
         ensures media { IfOk result (λ heard.
             TakesCredit (length given.entry.now.datagram) pass.old.credit pass.new.credit heard.onwards.signals) }
-        ensures lease { OnOk result (hands.new.lease ≡ None) × OnErr result (hands.new.lease ≡ hands.old.lease) }
-        ensures rest { (hands.new.denial ≡ hands.old.denial) × (hands.new.leavers ≡ hands.old.leavers) ×
-            (hands.new.named ≡ hands.old.named) }
+        ensures lease { OnOk result (resources.new.lease ≡ None) × OnErr result (resources.new.lease ≡ resources.old.lease) }
+        ensures rest { (resources.new.denial ≡ resources.old.denial) × (resources.new.retired_legs ≡ resources.old.retired_legs) ×
+            (resources.new.named ≡ resources.old.named) }
     {
         let challenge = given.challenge.unwrap();
         let frame = opening_in(&given.datagram);
-        let lease = hands.lease.take().unwrap();
+        let lease = resources.lease.take().unwrap();
         let mut onwards = pass.lend(self.alloc);
         let answer = self
             .locked(rt, name.peer)
@@ -212,7 +212,7 @@ impl<G: Gate, J: Naming> Exchange<G, J> {
             }),
             Err((lease, error)) => {
                 pass.keep(onwards);
-                hands.lease = Some(lease);
+                resources.lease = Some(lease);
                 Err(error)
             }
         }

@@ -4,11 +4,11 @@ ghost use Rattle.std.specs.Prelude.{◌≡◌, ◌<◌, ◌≤◌, IfSome, lengt
 use crate::exchange::Exchange;
 use crate::gate::Gate;
 use call_book::LegName;
-use noted_steps::Pass;
-use peer_lock::{Description, Losses, Naming, Pokes, Status, Sums};
+use peer_lock::{Description, LedgerSet, Losses, Pokes, Status, Sums};
 use std::sync::Wait;
+use step_log::Pass;
 
-impl<G: Gate, J: Naming> Exchange<G, J> {
+impl<G: Gate, J: LedgerSet> Exchange<G, J> {
     /// Returns the status of the leg of a local number of a peer of the plan, or `None` if there is none.
     pub fn status<R: Wait>(
         &self,
@@ -91,10 +91,12 @@ impl<G: Gate, J: Naming> Exchange<G, J> {
         state.pokes()
     }
 
-    /// Returns the number of legs of a peer of the plan, 0 ..= 512.
+    /// Returns the number of legs of a peer of the plan, 0 ..= 512. They are those that the peer has while this call has its
+    /// lock; other calls may add or remove legs before and after.
     pub fn leg_count<R: Wait>(&self, rt: &R, _pass: &mut Pass<J>, peer: u16) -> usize
         requires { peer < length self.now.peers }
-        ensures { _pass.new ≡ _pass.old }
+        ensures pass { _pass.new ≡ _pass.old }
+        ensures most { result ≤ 512 }
     {
         let state = self.peers[usize::from(peer)].lock(rt);
         self.gate.enter(peer);

@@ -4,12 +4,12 @@ ghost use Rattle.std.specs.List.{AllByRecursion};
 ghost use Rattle.std.specs.Prelude.{◌≡◌, ◌≢◌, ℕ, ◌+◌, ◌<◌, ◌≤◌, length, Option, None, Some, Err, true, false, IfOk};
 ghost use Rattle.std.specs.Prelude.{IsSome, OnOk, OnErr};
 ghost use Rattle.call_book.specs.declared.leg_name.LegName.{LegName as LegNameValue};
-ghost use Rattle.call_steps.specs.Beginnings.{is_answer, is_made};
-ghost use Rattle.call_steps.specs.Leases.{lease_needed, lease_after};
-ghost use Rattle.call_steps.specs.WorkState.{offer_in};
-ghost use Rattle.call_steps.specs.MediaLeft.{media_of, media_needed, handed_by};
-ghost use Rattle.call_steps.specs.declared.need.Need.TheVariants as needs;
-ghost use Rattle.call_steps.specs.declared.reply.Reply.TheVariants as replies;
+ghost use Rattle.call_control.specs.Beginnings.{is_answer, is_made};
+ghost use Rattle.call_control.specs.Leases.{lease_needed, lease_after};
+ghost use Rattle.call_control.specs.WorkState.{offer_in};
+ghost use Rattle.call_control.specs.MediaLeft.{media_of, media_needed, handed_by};
+ghost use Rattle.call_control.specs.declared.need.Need.TheVariants as needs;
+ghost use Rattle.call_control.specs.declared.reply.Reply.TheVariants as replies;
 ghost use Rattle.exchange_core.specs.Covered.{IsCovered};
 ghost use Rattle.exchange_core.specs.FirstSteps.{InPlan, IsOfNew, IsOpenedOut, IsOpeningDue, KeepsPeer, named_after};
 ghost use Rattle.exchange_core.specs.Newcomers.{SpellsOpening};
@@ -17,21 +17,21 @@ ghost use Rattle.exchange_core.specs.Leaving as leaving;
 ghost use Rattle.exchange_core.specs.Leaving.{Leaves, leaving_of};
 ghost use Rattle.exchange_core.specs.Numbers.{IsCalled};
 ghost use Rattle.exchange_core.specs.Traces.{Makes, call_of};
-ghost use Rattle.exchange_core.specs.declared.hands.Given.{Given as GivenValue};
-ghost use Rattle.noted_steps.specs.Notes as notes;
+ghost use Rattle.exchange_core.specs.declared.resources.Given.{Given as GivenValue};
+ghost use Rattle.step_log.specs.Notes as notes;
 ghost use Rattle.peer_lock.specs.Accounts.{with_step};
 ghost use Rattle.peer_lock.specs.CarriedMedia.{LiesWithin, handed_octets};
 ghost use Rattle.peer_accounts.specs.declared.onwards.Offer.{Offer as OfferValue};
 
 use crate::exchange::Exchange;
 use crate::gate::Gate;
-use crate::hands::{Given, Hands};
+use crate::resources::{Given, TaskResources};
 use call_book::{Lease, LegName, ReserveError, Stale};
-use call_steps::{Act, Heard, Need, Reply, Work};
-use noted_steps::Pass;
+use call_control::{Act, Heard, Need, Reply, Work};
 use peer_lock::laws::media_is_the_datagrams;
-use peer_lock::{Naming, OpenError, OrderError, Status, StepsSpent};
+use peer_lock::{LedgerSet, OpenError, OrderError, Status, StepsSpent};
 use std::sync::Wait;
+use step_log::Pass;
 
 // Returns the book's answer without the lease that came back.
 fn without_lease(answer: Result<Option<LegName>, (Lease, Stale)>) -> Result<Option<LegName>, Stale>
@@ -53,7 +53,7 @@ fn former_of(answer: Result<Option<LegName>, Stale>) -> Option<LegName>
     }
 }
 
-impl<G: Gate, J: Naming> Exchange<G, J> {
+impl<G: Gate, J: LedgerSet> Exchange<G, J> {
     // Gives the datagram to its peer, with room for the signals that it hands up.
     fn hear_given<R: Wait>(
         &self,
@@ -164,16 +164,17 @@ impl<G: Gate, J: Naming> Exchange<G, J> {
         pass: &mut Pass<J>,
         name: LegName,
         now: u64,
-        hands: &mut Hands,
+        resources: &mut TaskResources,
     ) -> bool
         ensures noted { (given : GivenValue) (offer : Option OfferValue) →
             Makes (call_of self.now given) offer (needs.Retire name) (replies.Retire result) pass.old pass.new }
         ensures credit { pass.new.credit ≡ pass.old.credit }
-        ensures lease { hands.new.lease ≡ lease_after (Some (needs.Retire name)) (replies.Retire result) hands.old.lease }
-        ensures left { Leaves now pass.old pass.new (leaving_of hands.old.leavers) (leaving_of hands.new.leavers) }
-        ensures rest { (hands.new.denial ≡ hands.old.denial) × (hands.new.named ≡ hands.old.named) }
+        ensures lease { resources.new.lease ≡ lease_after (Some (needs.Retire name)) (replies.Retire result) resources.old.lease }
+        ensures left { Leaves now pass.old pass.new (leaving_of resources.old.retired_legs)
+            (leaving_of resources.new.retired_legs) }
+        ensures rest { (resources.new.denial ≡ resources.old.denial) × (resources.new.named ≡ resources.old.named) }
     {
-        if name.peer >= self.plan.peer_count() || !hands.leavers.make_room() {
+        if name.peer >= self.plan.peer_count() || !resources.retired_legs.make_room() {
             pass.note_unasked();
             return false;
         }
@@ -181,7 +182,7 @@ impl<G: Gate, J: Naming> Exchange<G, J> {
         let Some((lease, leg)) = retired else {
             return false;
         };
-        hands.take_over(name, lease, leg, now);
+        resources.take_over(name, lease, leg, now);
         true
     }
 
@@ -191,22 +192,23 @@ impl<G: Gate, J: Naming> Exchange<G, J> {
         rt: &R,
         pass: &mut Pass<J>,
         peer: u16,
-        hands: &mut Hands,
+        resources: &mut TaskResources,
     ) -> Result<LegName, ReserveError>
         ensures noted { (given : GivenValue) (offer : Option OfferValue) →
             Makes (call_of self.now given) offer (needs.Reserve peer) (replies.Reserve result) pass.old pass.new }
         ensures credit { pass.new.credit ≡ pass.old.credit }
         ensures peer { IfOk result (λ name. name.peer ≡ peer) }
-        ensures lease { hands.new.lease ≡ lease_after (Some (needs.Reserve peer)) (replies.Reserve result) hands.old.lease }
-        ensures rest { (hands.new.leavers ≡ hands.old.leavers) × (hands.new.denial ≡ hands.old.denial) }
-        ensures named { hands.new.named ≡ named_after (replies.Reserve result) hands.old.named }
+        ensures lease { resources.new.lease ≡ lease_after (Some (needs.Reserve peer)) (replies.Reserve result)
+            resources.old.lease }
+        ensures rest { (resources.new.retired_legs ≡ resources.old.retired_legs) × (resources.new.denial ≡ resources.old.denial) }
+        ensures named { resources.new.named ≡ named_after (replies.Reserve result) resources.old.named }
     {
         let reserved = self.book.lock(rt).reserve(pass, peer);
         match reserved {
             Ok(lease) => {
                 let name = lease.name();
-                hands.lease = Some(lease);
-                hands.named = Some(name);
+                resources.lease = Some(lease);
+                resources.named = Some(name);
                 Ok(name)
             }
             Err(error) => Err(error),
@@ -220,20 +222,21 @@ impl<G: Gate, J: Naming> Exchange<G, J> {
         rt: &R,
         pass: &mut Pass<J>,
         _name: LegName,
-        hands: &mut Hands,
+        resources: &mut TaskResources,
     ) -> Result<Option<LegName>, Stale>
-        requires { hands.old.lease ≡ Some _name }
+        requires { resources.old.lease ≡ Some _name }
         ensures noted { (given : GivenValue) (offer : Option OfferValue) →
             Makes (call_of self.now given) offer (needs.Release _name) (replies.Release result) pass.old pass.new }
         ensures credit { pass.new.credit ≡ pass.old.credit }
-        ensures lease { hands.new.lease ≡ None }
-        ensures left { (now : ℕ) → Leaves now pass.old pass.new (leaving_of hands.old.leavers) (leaving_of hands.new.leavers) }
-        ensures rest { (hands.new.denial ≡ hands.old.denial) × (hands.new.named ≡ hands.old.named) }
+        ensures lease { resources.new.lease ≡ None }
+        ensures left { (now : ℕ) → Leaves now pass.old pass.new (leaving_of resources.old.retired_legs)
+            (leaving_of resources.new.retired_legs) }
+        ensures rest { (resources.new.denial ≡ resources.old.denial) × (resources.new.named ≡ resources.old.named) }
     {
-        let lease = hands.lease.take().unwrap();
+        let lease = resources.lease.take().unwrap();
         let released = self.book.lock(rt).release(pass, lease);
         let answer = without_lease(released);
-        hands.leavers.part(former_of(answer));
+        resources.retired_legs.part(former_of(answer));
         answer
     }
 
@@ -248,10 +251,10 @@ impl<G: Gate, J: Naming> Exchange<G, J> {
         work: &Work,
         need: Need,
         given: &Given<'_, '_, '_>,
-        hands: &mut Hands,
+        resources: &mut TaskResources,
     ) -> Reply
         requires media { IsCovered (length given.now.datagram) pass.old.credit.octets (media_needed (Some need)) }
-        requires lease { (name : LegNameValue) → lease_needed (Some need) ≡ Some name → hands.old.lease ≡ Some name }
+        requires lease { (name : LegNameValue) → lease_needed (Some need) ≡ Some name → resources.old.lease ≡ Some name }
         requires called { ForSome given.now.called (λ text. IsCalled text.now) }
         requires peer { InPlan (length self.now.peers) (Some need) }
         requires opening { IsOfNew (Some need) → SpellsOpening given.now.datagram × IsSome given.now.challenge }
@@ -268,29 +271,31 @@ impl<G: Gate, J: Naming> Exchange<G, J> {
         ensures media { AllByRecursion (LiesWithin (length given.entry.now.datagram)) (handed_by result) ×
             (pass.old.credit.octets + handed_octets (handed_by result) ≤ pass.new.credit.octets +
             handed_octets (media_needed (Some need))) }
-        ensures hands { (hands.new.lease ≡ lease_after (Some need) result hands.old.lease) ×
-            (hands.new.denial ≡ hands.old.denial) × (hands.new.named ≡ named_after result hands.old.named) }
+        ensures resources { (resources.new.lease ≡ lease_after (Some need) result resources.old.lease) ×
+            (resources.new.denial ≡ resources.old.denial) × (resources.new.named ≡ named_after result resources.old.named) }
         // The legs that it took out are those of this step.
-        ensures left { Leaves given.entry.now.now pass.old pass.new (leaving_of hands.old.leavers)
-            (leaving_of hands.new.leavers) }
+        ensures left { Leaves given.entry.now.now pass.old pass.new (leaving_of resources.old.retired_legs)
+            (leaving_of resources.new.retired_legs) }
     {
         match need {
             Need::Datagram(peer) => self.hear_given(rt, pass, peer, given),
             Need::RejectNew(peer) => Reply::RejectNew(self.reject_given(rt, pass, peer, given)),
-            Need::OpenIn(name) => Reply::OpenIn(self.open_given(rt, pass, name, given, hands)),
+            Need::OpenIn(name) => Reply::OpenIn(self.open_given(rt, pass, name, given, resources)),
             Need::OpenOut(name) => {
-                Reply::OpenOut(self.open_from(rt, pass, name, work.offer(), given, hands))
+                Reply::OpenOut(self.open_from(rt, pass, name, work.offer(), given, resources))
             }
             Need::Order(name, act) => { Reply::Order(self.act(rt, pass, name, act, given)) }
             Need::Tick(peer) => Reply::Tick(self.tick_given(rt, pass, peer, given)),
             Need::Look(peer, number) => Reply::Look(self.look_at(rt, pass, peer, number)),
-            Need::Retire(name) => Reply::Retire(self.retire_into(rt, pass, name, given.now, hands)),
-            Need::Reserve(peer) => Reply::Reserve(self.reserve_into(rt, pass, peer, hands)),
+            Need::Retire(name) => Reply::Retire(self.retire_into(
+                rt, pass, name, given.now, resources,
+            )),
+            Need::Reserve(peer) => Reply::Reserve(self.reserve_into(rt, pass, peer, resources)),
             Need::Bridge(one, other) => {
                 Reply::Bridge(self.book.lock(rt).bridge(pass, one, other))
             }
             Need::Partner(name) => Reply::Partner(self.book.lock(rt).partner(pass, name)),
-            Need::Release(name) => Reply::Release(self.release_from(rt, pass, name, hands)),
+            Need::Release(name) => Reply::Release(self.release_from(rt, pass, name, resources)),
             Need::Route(offered) => Reply::Route(self.route_noted(pass, offered, work.offer())),
         }
     }

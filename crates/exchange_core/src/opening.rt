@@ -1,26 +1,24 @@
 //! Opens an exchange.
-ghost use Rattle.std.specs.Prelude.{◌≡◌, ℕ, ◌+◌, ◌-◌, ◌*◌, ◌<◌, ◌≤◌, ◌^◌, ◌++◌, [], Some, IfOk, OnOk, All, length};
-ghost use Rattle.std.specs.Prelude.{option_map, replicate, slice_get, vec_len};
-ghost use Rattle.exchange_core.specs.Start.{first_book, first_legs, IsStart};
-ghost use Rattle.peer_lock.specs.Outbox.{no_losses};
-ghost use Rattle.peer_lock.specs.Accounts.{no_accounts};
+ghost use Rattle.std.specs.Prelude.{◌≡◌, ℕ, ◌+◌, ◌-◌, ◌*◌, ◌<◌, ◌≤◌, ◌^◌, ◌++◌, [], IfOk, OnOk, All, length};
+ghost use Rattle.std.specs.Prelude.{replicate, vec_len};
+ghost use Rattle.exchange_core.specs.Start.{AreFirstPeers, HasNoCredit, HasNoSteps, IsBlankFor, IsFirstPeer, IsStart, first_book};
 
 use crate::exchange::{Exchange, PeerCell};
 use crate::gate::Gate;
+use crate::locked::Locked;
 use call_book::CallBook;
 use media_ledger::shares::supply;
 use media_ledger::{Blank, Share, Supply, SupplyError};
-use noted_steps::{NotedBook, NotedPeer, Pass};
-use peer_lock::{Naming, PeerState};
+use peer_lock::{LedgerSet, PeerState};
 use peer_plan::Plan;
 use std::alloc::{AllocError, Global};
-use std::sync::Mutex;
 use std::sync::ledger::Ledger;
+use step_log::{NotedBook, NotedPeer, Pass};
 
 // The octets and the steps with which each peer is opened.
 const FIRST_CREDIT: u64 = 1 << 48;
 
-impl<G: Gate, J: Naming> Exchange<G, J> {
+impl<G: Gate, J: LedgerSet> Exchange<G, J> {
     /// Returns an exchange with all its passes, as `open_at` opens it with the first serial 0.
     ///
     /// Returns `Err` only if memory was refused; then all arguments are dropped.
@@ -31,15 +29,13 @@ impl<G: Gate, J: Naming> Exchange<G, J> {
         octets: Blank,
         steps: Blank,
     ) -> Result<(Exchange<G, J>, Vec<Pass<J>>), AllocError>
-        requires octets { (octets.name ≡ J.Octets.name) × (octets.parts ≡ J.Octets.parts) ×
-            (octets.parts ≡ length plan.peers + plan.passes) }
-        requires steps { (steps.name ≡ J.Steps.name) × (steps.parts ≡ J.Steps.parts) ×
-            (steps.parts ≡ length plan.peers + plan.passes) }
+        requires octets { IsBlankFor plan J.Octets.name J.Octets.parts octets.name octets.parts }
+        requires steps { IsBlankFor plan J.Steps.name J.Steps.parts steps.name steps.parts }
         requires first { (J.first_octets ≡ 2 ^ 48) × (J.first_steps ≡ 2 ^ 48) }
         ensures plan { IfOk result (λ opened. opened.0 ≡ plan) }
         ensures passes { IfOk result (λ opened. vec_len opened.1 ≡ plan.passes) }
-        ensures empty { IfOk result (λ opened. All (λ pass. (pass.credit.octets ≡ 0) × (pass.credit.steps ≡ 0)) opened.1.items) }
-        ensures unused { IfOk result (λ opened. All (λ pass. (pass.begun ≡ 0) × (pass.made ≡ [])) opened.1.items) }
+        ensures empty { IfOk result (λ opened. All HasNoCredit opened.1.items) }
+        ensures unused { IfOk result (λ opened. All HasNoSteps opened.1.items) }
         ensures start { OnOk result (IsStart plan 0) }
     {
         Exchange::open_at(alloc, plan, gate, octets, steps, 0)
@@ -58,15 +54,13 @@ impl<G: Gate, J: Naming> Exchange<G, J> {
         steps: Blank,
         first_serial: u64,
     ) -> Result<(Exchange<G, J>, Vec<Pass<J>>), AllocError>
-        requires octets { (octets.name ≡ J.Octets.name) × (octets.parts ≡ J.Octets.parts) ×
-            (octets.parts ≡ length plan.peers + plan.passes) }
-        requires steps { (steps.name ≡ J.Steps.name) × (steps.parts ≡ J.Steps.parts) ×
-            (steps.parts ≡ length plan.peers + plan.passes) }
+        requires octets { IsBlankFor plan J.Octets.name J.Octets.parts octets.name octets.parts }
+        requires steps { IsBlankFor plan J.Steps.name J.Steps.parts steps.name steps.parts }
         requires first { (J.first_octets ≡ 2 ^ 48) × (J.first_steps ≡ 2 ^ 48) }
         ensures plan { IfOk result (λ opened. opened.0 ≡ plan) }
         ensures passes { IfOk result (λ opened. vec_len opened.1 ≡ plan.passes) }
-        ensures empty { IfOk result (λ opened. All (λ pass. (pass.credit.octets ≡ 0) × (pass.credit.steps ≡ 0)) opened.1.items) }
-        ensures unused { IfOk result (λ opened. All (λ pass. (pass.begun ≡ 0) × (pass.made ≡ [])) opened.1.items) }
+        ensures empty { IfOk result (λ opened. All HasNoCredit opened.1.items) }
+        ensures unused { IfOk result (λ opened. All HasNoSteps opened.1.items) }
         // It is a start of the world of the law over many calls, with a caller for each pass and this serial.
         ensures start { OnOk result (IsStart plan first_serial) }
     {
@@ -82,7 +76,7 @@ impl<G: Gate, J: Naming> Exchange<G, J> {
             gate,
             plan,
             peers,
-            book: Mutex::new(NotedBook::new(book)),
+            book: Locked::new(NotedBook::new(book)),
             octets: octets.supply,
             steps: steps.supply,
         };
@@ -107,7 +101,7 @@ struct Issued<L: Ledger> {
 
 // The parts of a new exchange: its book, the peers under their locks, the passes, and the shares issued for them.
 #[derive(Drop)]
-struct Stock<J: Naming> {
+struct Stock<J: LedgerSet> {
     book: CallBook,
     peers: Vec<PeerCell<J>>,
     passes: Vec<Pass<J>>,
@@ -116,23 +110,21 @@ struct Stock<J: Naming> {
 }
 
 // Returns the parts of a plan's exchange, with all peers and passes.
-fn full_stock<J: Naming>(
+fn full_stock<J: LedgerSet>(
     alloc: Global,
     plan: &Plan,
     blanks: Blanks,
     first_serial: u64,
 ) -> Result<Stock<J>, AllocError>
-    requires octets { (blanks.octets.name ≡ J.Octets.name) × (blanks.octets.parts ≡ J.Octets.parts) ×
-        (blanks.octets.parts ≡ length plan.now.peers + plan.now.passes) }
-    requires steps { (blanks.steps.name ≡ J.Steps.name) × (blanks.steps.parts ≡ J.Steps.parts) ×
-        (blanks.steps.parts ≡ length plan.now.peers + plan.now.passes) }
+    requires octets { IsBlankFor plan.now J.Octets.name J.Octets.parts blanks.octets.name blanks.octets.parts }
+    requires steps { IsBlankFor plan.now J.Steps.name J.Steps.parts blanks.steps.name blanks.steps.parts }
     requires first { (J.first_octets ≡ 2 ^ 48) × (J.first_steps ≡ 2 ^ 48) }
     ensures start { OnOk result (IsStart plan.now first_serial × (length plan.now.peers ≤ 32) × (plan.now.passes ≤ 64)) }
     ensures book { IfOk result (λ stock. stock.book ≡ first_book plan.now first_serial) }
     ensures all { IfOk result (λ stock. (vec_len stock.peers ≡ length plan.now.peers) ×
         (vec_len stock.passes ≡ plan.now.passes)) }
-    ensures unused { IfOk result (λ stock. All (λ pass. (pass.credit.octets ≡ 0) × (pass.credit.steps ≡ 0)) stock.passes.items ×
-        All (λ pass. (pass.begun ≡ 0) × (pass.made ≡ [])) stock.passes.items) }
+    ensures peers { IfOk result (λ stock. AreFirstPeers plan.now 0 stock.peers.items) }
+    ensures unused { IfOk result (λ stock. All HasNoCredit stock.passes.items × All HasNoSteps stock.passes.items) }
     ensures supplied { IfOk result (λ stock. (stock.octets.supply.shares ≡ length plan.now.peers + plan.now.passes) ×
         (stock.octets.supply.amount ≡ length plan.now.peers * J.first_octets) ×
         (stock.steps.supply.shares ≡ length plan.now.peers + plan.now.passes) ×
@@ -148,19 +140,17 @@ fn full_stock<J: Naming>(
 }
 
 // Returns the book and the shares, as yet without peers and passes.
-fn first_stock<J: Naming>(
+fn first_stock<J: LedgerSet>(
     alloc: Global,
     plan: &Plan,
     blanks: Blanks,
     first_serial: u64,
 ) -> Result<Stock<J>, AllocError>
-    requires octets { (blanks.octets.name ≡ J.Octets.name) × (blanks.octets.parts ≡ J.Octets.parts) ×
-        (blanks.octets.parts ≡ length plan.now.peers + plan.now.passes) }
-    requires steps { (blanks.steps.name ≡ J.Steps.name) × (blanks.steps.parts ≡ J.Steps.parts) ×
-        (blanks.steps.parts ≡ length plan.now.peers + plan.now.passes) }
+    requires octets { IsBlankFor plan.now J.Octets.name J.Octets.parts blanks.octets.name blanks.octets.parts }
+    requires steps { IsBlankFor plan.now J.Steps.name J.Steps.parts blanks.steps.name blanks.steps.parts }
     ensures start { OnOk result (IsStart plan.now first_serial) }
     ensures book { IfOk result (λ stock. stock.book ≡ first_book plan.now first_serial) }
-    ensures none { IfOk result (λ stock. (vec_len stock.peers ≡ 0) × (stock.passes.items ≡ [])) }
+    ensures none { IfOk result (λ stock. (stock.peers.items ≡ []) × (stock.passes.items ≡ [])) }
     ensures supplied { IfOk result (λ stock. (stock.octets.supply.shares ≡ length plan.now.peers + plan.now.passes) ×
         (stock.octets.supply.amount ≡ length plan.now.peers * 2 ^ 48) ×
         (stock.steps.supply.shares ≡ length plan.now.peers + plan.now.passes) ×
@@ -191,16 +181,20 @@ fn first_stock<J: Naming>(
 }
 
 // Makes the peers and the passes, each with its shares.
-fn share_out<J: Naming>(alloc: Global, plan: &Plan, stock: &mut Stock<J>) -> Result<(), AllocError>
-    requires none { (vec_len stock.old.peers ≡ 0) × (stock.old.passes.items ≡ []) }
+fn share_out<J: LedgerSet>(
+    alloc: Global,
+    plan: &Plan,
+    stock: &mut Stock<J>,
+) -> Result<(), AllocError>
+    requires none { (stock.old.peers.items ≡ []) × (stock.old.passes.items ≡ []) }
     requires octets { (stock.old.octets.first.items ≡ replicate (length plan.now.peers) J.first_octets) ×
         (stock.old.octets.empty.items ≡ replicate plan.now.passes 0) }
     requires steps { (stock.old.steps.first.items ≡ replicate (length plan.now.peers) J.first_steps) ×
         (stock.old.steps.empty.items ≡ replicate plan.now.passes 0) }
     ensures range { (length plan.now.peers ≤ 32) × (plan.now.passes ≤ 64) }
     ensures all { OnOk result ((vec_len stock.new.peers ≡ length plan.now.peers) × (vec_len stock.new.passes ≡ plan.now.passes)) }
-    ensures unused { OnOk result (All (λ pass. (pass.credit.octets ≡ 0) × (pass.credit.steps ≡ 0)) stock.new.passes.items ×
-        All (λ pass. (pass.begun ≡ 0) × (pass.made ≡ [])) stock.new.passes.items) }
+    ensures peers { OnOk result (AreFirstPeers plan.now 0 stock.new.peers.items) }
+    ensures unused { OnOk result (All HasNoCredit stock.new.passes.items × All HasNoSteps stock.new.passes.items) }
     ensures supplied { (stock.new.octets.supply ≡ stock.old.octets.supply) × (stock.new.steps.supply ≡ stock.old.steps.supply) }
     ensures book { stock.new.book ≡ stock.old.book }
 {
@@ -280,7 +274,7 @@ fn push_equal(amounts: &mut Vec<u64>, count: u16, amount: u64) -> Result<(), All
 }
 
 // Returns a peer of the plan without a leg, with first shares of both supplies.
-fn state_of<J: Naming>(
+fn state_of<J: LedgerSet>(
     alloc: Global,
     plan: &Plan,
     peer: u16,
@@ -290,11 +284,7 @@ fn state_of<J: Naming>(
     requires peer { peer < length plan.now.peers }
     requires octets { octets ≡ J.first_octets }
     requires steps { steps ≡ J.first_steps }
-    ensures rules { IfOk result (λ state. option_map (λ peer. peer.rules) (slice_get plan.now.peers peer) ≡
-        Some state.state.rules) }
-    ensures legs { IfOk result (λ state. (state.number ≡ peer) × (state.state.legs ≡ first_legs plan.now peer)) }
-    ensures empty { IfOk result (λ state. (state.state.outbox ≡ record { waiting = []; lost = no_losses }) ×
-        (state.state.queue ≡ []) × (state.state.accounts ≡ no_accounts)) }
+    ensures { IfOk result (IsFirstPeer plan.now peer) }
 {
     let _counts = plan.counts();
     let range = plan.range(peer);
@@ -325,8 +315,8 @@ fn last_of<L: Ledger>(shares: &mut Vec<Share<L>>) -> Share<L>
     }
 }
 
-// Adds the peers of the plan to the empty list in its order, each under its lock with first shares of both supplies.
-fn push_cells<J: Naming>(
+// Puts the peers of the plan behind locks, in its order, each with first shares of both supplies.
+fn push_cells<J: LedgerSet>(
     alloc: Global,
     plan: &Plan,
     peers: u16,
@@ -337,20 +327,21 @@ fn push_cells<J: Naming>(
     requires peers { peers ≡ length plan.now.peers }
     requires octets { octets.old.items ≡ replicate peers J.first_octets }
     requires steps { steps.old.items ≡ replicate peers J.first_steps }
-    requires none { vec_len cells.old ≡ 0 }
-    ensures { OnOk result (vec_len cells.new ≡ peers) }
+    requires none { cells.old.items ≡ [] }
+    ensures len { OnOk result (vec_len cells.new ≡ peers) }
+    ensures peers { OnOk result (AreFirstPeers plan.now 0 cells.new.items) }
 {
     for peer in 0..peers {
         let o = last_of(octets);
         let s = last_of(steps);
         let state = state_of(alloc, plan, peer, o, s)?;
-        cells.push(Mutex::new(state))?;
+        cells.push(Locked::new(state))?;
     }
     Ok(())
 }
 
 // Returns a pass of empty shares, without steps.
-fn unused_pass<J: Naming>(octets: Share<J::Octets>, steps: Share<J::Steps>) -> Pass<J>
+fn unused_pass<J: LedgerSet>(octets: Share<J::Octets>, steps: Share<J::Steps>) -> Pass<J>
     requires octets { octets ≡ 0 }
     requires steps { steps ≡ 0 }
     ensures empty { (result.credit.octets ≡ 0) × (result.credit.steps ≡ 0) }
@@ -360,7 +351,7 @@ fn unused_pass<J: Naming>(octets: Share<J::Octets>, steps: Share<J::Steps>) -> P
 }
 
 // Adds `count` passes to the empty list, without credit and without steps.
-fn push_passes<J: Naming>(
+fn push_passes<J: LedgerSet>(
     count: u16,
     octets: &mut Vec<Share<J::Octets>>,
     steps: &mut Vec<Share<J::Steps>>,
@@ -370,8 +361,8 @@ fn push_passes<J: Naming>(
     requires steps { steps.old.items ≡ replicate count 0 }
     requires none { passes.old.items ≡ [] }
     ensures len { OnOk result (vec_len passes.new ≡ count) }
-    ensures empty { OnOk result (All (λ pass. (pass.credit.octets ≡ 0) × (pass.credit.steps ≡ 0)) passes.new.items) }
-    ensures unused { OnOk result (All (λ pass. (pass.begun ≡ 0) × (pass.made ≡ [])) passes.new.items) }
+    ensures empty { OnOk result (All HasNoCredit passes.new.items) }
+    ensures unused { OnOk result (All HasNoSteps passes.new.items) }
 {
     for _i in 0..count {
         let o = last_of(octets);

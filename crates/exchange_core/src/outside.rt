@@ -1,9 +1,9 @@
 //! The calls of workers and callers.
 ghost use Rattle.std.specs.Prelude.{◌≡◌, ◌≢◌, ◌+◌, ◌<◌, ◌≤◌, ◌↔◌, ◌⊎◌, Err, None, IfNone, IfOk, IfErr, IfSome, IsSome, Some};
 ghost use Rattle.std.specs.Prelude.{All, OnOk, OnErr, IsTrue, length, map, option_map};
-ghost use Rattle.call_steps.specs.Beginnings.{OfCall, OfDatagram, OfHangUp, OfTick};
-ghost use Rattle.call_steps.specs.Work as work;
-ghost use Rattle.call_steps.specs.WorkState.{begun};
+ghost use Rattle.call_control.specs.Beginnings.{OfCall, OfDatagram, OfHangUp, OfTick};
+ghost use Rattle.call_control.specs.Work as work;
+ghost use Rattle.call_control.specs.WorkState.{begun};
 ghost use Rattle.exchange_core.specs.Denial.{Denies, denied_since};
 ghost use Rattle.exchange_core.specs.Leaving.{Leave, departure_of};
 ghost use Rattle.exchange_core.specs.Numbers.{IsCalled};
@@ -17,14 +17,14 @@ use crate::answers::{Answer, CallError, Refusal};
 use crate::denial::Denial;
 use crate::exchange::Exchange;
 use crate::gate::Gate;
-use crate::hands::Given;
+use crate::resources::Given;
 use call_auth::Challenge;
 use call_book::LegName;
-use call_steps::Work;
-use noted_steps::Pass;
-use peer_lock::{Naming, OrderError, ReadDatagram};
+use call_control::Work;
+use peer_lock::{LedgerSet, OrderError, ReadDatagram};
 use peer_plan::Endpoint;
 use std::sync::Wait;
+use step_log::Pass;
 
 // Returns whether the text is a number that may be called.
 fn is_called(text: &[u8]) -> bool
@@ -78,7 +78,7 @@ fn hung_up(denial: Option<Denial>) -> Result<(), OrderError>
     }
 }
 
-impl<G: Gate, J: Naming> Exchange<G, J> {
+impl<G: Gate, J: LedgerSet> Exchange<G, J> {
     /// Handles a datagram from an endpoint at the moment `now`, in milliseconds: the step of its peer, then the steps that
     /// follow from it. The challenge is for a NEW whose peer has a secret.
     ///

@@ -5,19 +5,19 @@ ghost use Rattle.peer_lock.specs.Accounts.{carried};
 
 use crate::exchange::PeerCell;
 use media_ledger::Share;
-use noted_steps::Pass;
-use peer_lock::{ClosedPeer, Naming};
+use peer_lock::{ClosedPeer, LedgerSet};
 use std::alloc::{AllocError, Global};
+use step_log::Pass;
 
 // Peers without their shares, and the shares.
 #[derive(Drop)]
-pub(crate) struct Parts<J: Naming> {
+pub(crate) struct Parts<J: LedgerSet> {
     pub(crate) peers: Vec<ClosedPeer<J>>,
     pub(crate) octets: Vec<Share<J::Octets>>,
     pub(crate) steps: Vec<Share<J::Steps>>,
 }
 
-impl<J: Naming> Parts<J> {
+impl<J: LedgerSet> Parts<J> {
     // Returns empty lists with room for these numbers of peers and shares.
     pub(crate) fn with_room(
         alloc: Global,
@@ -47,7 +47,7 @@ impl<J: Naming> Parts<J> {
 }
 
 // Takes a peer from its lock and separates it from its shares.
-fn part_peer<J: Naming>(cell: PeerCell<J>) -> (ClosedPeer<J>, Share<J::Octets>, Share<J::Steps>)
+fn part_peer<J: LedgerSet>(cell: PeerCell<J>) -> (ClosedPeer<J>, Share<J::Octets>, Share<J::Steps>)
     ensures octets { result.1 + result.0.accounts.accepted ≡ J.first_octets + carried result.0.accounts }
     ensures steps { result.2 + result.0.accounts.steps ≡ J.first_steps }
     ensures within { result.0.accounts.accepted ≤ J.first_octets }
@@ -59,7 +59,7 @@ fn part_peer<J: Naming>(cell: PeerCell<J>) -> (ClosedPeer<J>, Share<J::Octets>, 
 }
 
 // Adds a peer behind the others, for which there is room.
-fn put<J: Naming>(peer: ClosedPeer<J>, peers: &mut Vec<ClosedPeer<J>>)
+fn put<J: LedgerSet>(peer: ClosedPeer<J>, peers: &mut Vec<ClosedPeer<J>>)
     requires { vec_len peers.old < vec_capacity peers.old }
     ensures items { peers.new.items ≡ peers.old.items ++ peer ∷ [] }
     ensures len { vec_len peers.new ≡ vec_len peers.old + 1 }
@@ -69,7 +69,7 @@ fn put<J: Naming>(peer: ClosedPeer<J>, peers: &mut Vec<ClosedPeer<J>>)
 }
 
 // Takes each peer from its lock and separates it from its shares, in order.
-pub(crate) fn part_peers<J: Naming>(
+pub(crate) fn part_peers<J: LedgerSet>(
     cells: Vec<PeerCell<J>>,
     peers: &mut Vec<ClosedPeer<J>>,
     octets: &mut Vec<Share<J::Octets>>,
@@ -99,7 +99,7 @@ pub(crate) fn part_peers<J: Naming>(
 }
 
 // Takes the shares out of the passes.
-pub(crate) fn part_passes<J: Naming>(
+pub(crate) fn part_passes<J: LedgerSet>(
     passes: Vec<Pass<J>>,
     octets: &mut Vec<Share<J::Octets>>,
     steps: &mut Vec<Share<J::Steps>>,

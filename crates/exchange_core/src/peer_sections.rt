@@ -2,18 +2,20 @@
 ghost use Rattle.std.specs.Prelude.{◌≡◌, ◌<◌, None, Some, if◌then◌else◌, length};
 ghost use Rattle.std.specs.Bool.{OnFalse};
 ghost use Rattle.std.specs.Sync.Mutex.{mutex_guard_value};
-ghost use Rattle.noted_steps.specs.Notes.{note};
-ghost use Rattle.noted_steps.specs.declared.made.Made.TheVariants as mades;
+ghost use Rattle.step_log.specs.Notes.{note};
+ghost use Rattle.step_log.specs.declared.made.Made.TheVariants as mades;
 
 use crate::exchange::Exchange;
 use crate::gate::Gate;
 use iax_frames::Out;
-use noted_steps::{NotedPeer, Pass};
-use peer_lock::Naming;
+use peer_lock::LedgerSet;
 use std::sync::{MutexGuard, Wait};
+use step_log::{NotedPeer, Pass};
 
-// Asserts that the peer under a lock is that of the lock. A call that found another would never return.
-fn expect_peer<R: Wait, J: Naming>(rt: &R, state: &NotedPeer<J>, peer: u16)
+// Asserts that the peer under a lock is that of the lock. The loop is never reached: `push_cells` puts the peer of each place
+// under the lock of that place, only `NotedPeer::new` sets a number, and a guard is used for method calls alone. No clause can
+// say so, because a lock hides its value. A refusal doesn't fit: each step's clauses say that it was made at this peer.
+fn expect_peer<R: Wait, J: LedgerSet>(rt: &R, state: &NotedPeer<J>, peer: u16)
     ensures { state.now.number ≡ peer }
 {
     if state.number() != peer {
@@ -22,7 +24,7 @@ fn expect_peer<R: Wait, J: Naming>(rt: &R, state: &NotedPeer<J>, peer: u16)
     }
 }
 
-impl<G: Gate, J: Naming> Exchange<G, J> {
+impl<G: Gate, J: LedgerSet> Exchange<G, J> {
     // Returns the peer at this place of the plan, under its lock.
     pub(crate) fn locked<R: Wait>(&self, rt: &R, peer: u16) -> MutexGuard<'_, NotedPeer<J>>
         requires { peer < length self.now.peers }

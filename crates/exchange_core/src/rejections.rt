@@ -3,7 +3,7 @@ ghost use Rattle.std.specs.Option.{option_or};
 ghost use Rattle.std.specs.Prelude.{◌≡◌};
 ghost use Rattle.exchange_core.specs.Rejections.{rejection_of};
 
-use call_steps::Reply;
+use call_control::Reply;
 use peer_lock::Rejection;
 
 // Returns the rejection of the step with this answer, or otherwise the one before it.

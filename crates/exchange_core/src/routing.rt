@@ -1,19 +1,19 @@
 //! Where offered calls lead.
 ghost use Rattle.std.specs.Prelude.{◌≡◌, length, Some, option_copied};
-ghost use Rattle.call_steps.specs.declared.need.Need.TheVariants as needs;
-ghost use Rattle.call_steps.specs.declared.reply.Reply.TheVariants as replies;
+ghost use Rattle.call_control.specs.declared.need.Need.TheVariants as needs;
+ghost use Rattle.call_control.specs.declared.reply.Reply.TheVariants as replies;
 ghost use Rattle.exchange_core.specs.Routes.{IsRoute, LeadsInside, format_for};
 ghost use Rattle.exchange_core.specs.Traces.{Makes, call_of};
-ghost use Rattle.exchange_core.specs.declared.hands.Given.{Given as GivenValue};
+ghost use Rattle.exchange_core.specs.declared.resources.Given.{Given as GivenValue};
 
 use crate::exchange::Exchange;
 use crate::gate::Gate;
 use call_book::LegName;
-use call_steps::Route;
+use call_control::Route;
 use leg_machine::{Format, Formats};
-use noted_steps::Pass;
-use peer_lock::{Naming, Offer};
+use peer_lock::{LedgerSet, Offer};
 use peer_plan::Plan;
+use step_log::Pass;
 
 // Returns the format of an offered call at a target with these formats.
 pub(crate) fn format_for(offer: &Offer, formats: Formats) -> Option<Format>
@@ -47,7 +47,7 @@ fn route(plan: &Plan, caller: u16, offer: Option<&Offer>) -> Route
     }
 }
 
-impl<G: Gate, J: Naming> Exchange<G, J> {
+impl<G: Gate, J: LedgerSet> Exchange<G, J> {
     // Returns the route of the call that this leg offers. It needs no locked state.
     pub(crate) fn route_noted(
         &self,

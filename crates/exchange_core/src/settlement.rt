@@ -9,14 +9,14 @@ use crate::gate::Gate;
 use crate::parting::{Parts, part_passes, part_peers};
 use call_book::CallBook;
 use media_ledger::{Share, Supply, gather};
-use noted_steps::Pass;
-use peer_lock::{ClosedPeer, Naming};
+use peer_lock::{ClosedPeer, LedgerSet};
 use std::alloc::AllocError;
 use std::sync::ledger::Ledger;
+use step_log::Pass;
 
 /// The contents of the locks, and the sums over all peers and passes.
 #[derive(Drop)]
-pub struct Settlement<J: Naming> {
+pub struct Settlement<J: LedgerSet> {
     /// The book of calls.
     pub book: CallBook,
     /// The peers, in plan order.
@@ -54,7 +54,7 @@ struct Sums {
     steps: u64,
 }
 
-fn sums_of<J: Naming>(peers: &[ClosedPeer<J>]) -> Sums
+fn sums_of<J: LedgerSet>(peers: &[ClosedPeer<J>]) -> Sums
     requires accepted { (accounts_of peers.now).accepted < 2 ^ 64 }
     requires packed { (accounts_of peers.now).packed < 2 ^ 64 }
     requires queued { (accounts_of peers.now).queued < 2 ^ 64 }
@@ -84,7 +84,7 @@ fn sums_of<J: Naming>(peers: &[ClosedPeer<J>]) -> Sums
 }
 
 // Returns the sums over peers whose accounts balance, except for octets that were left with passes.
-fn settled<J: Naming>(book: CallBook, peers: Vec<ClosedPeer<J>>) -> Settlement<J>
+fn settled<J: LedgerSet>(book: CallBook, peers: Vec<ClosedPeer<J>>) -> Settlement<J>
     requires accepted { (accounts_of peers.items).accepted < 2 ^ 64 }
     requires within { carried (accounts_of peers.items) ≤ (accounts_of peers.items).accepted }
     requires quelched { (accounts_of peers.items).quelched ≤ (accounts_of peers.items).dropped }
@@ -121,7 +121,7 @@ fn gathered<L: Ledger>(supply: &Supply<L>, shares: Vec<Share<L>>) -> u64
 }
 
 // Returns the room for the shares of all passes, or the reason why nothing is settled. Memory is checked first.
-fn room_for_all<J: Naming>(
+fn room_for_all<J: LedgerSet>(
     room: Result<Parts<J>, AllocError>,
     passes: usize,
     all: usize,
@@ -140,7 +140,7 @@ fn room_for_all<J: Naming>(
     }
 }
 
-impl<G: Gate, J: Naming> Exchange<G, J> {
+impl<G: Gate, J: LedgerSet> Exchange<G, J> {
     /// Ends the exchange, once every pass was returned: gives the book, the peers, and the sums over all peers and passes.
     /// The passes are those of its `open`, by their type.
     ///

@@ -3,17 +3,17 @@ ghost use Rattle.std.specs.Prelude.{◌≡◌, Err, IfNone, IfSome, Ok, Option, 
 ghost use Rattle.call_book.specs.declared.errors.ReserveError.{ReserveError as ReserveErrorValue};
 ghost use Rattle.call_book.specs.declared.errors.Stale.{Stale as StaleValue};
 ghost use Rattle.call_book.specs.declared.leg_name.LegName.{LegName as LegNameValue};
-ghost use Rattle.noted_steps.specs.Notes.{note};
-ghost use Rattle.noted_steps.specs.declared.made.Made.TheVariants as mades;
+ghost use Rattle.step_log.specs.Notes.{note};
+ghost use Rattle.step_log.specs.declared.made.Made.TheVariants as mades;
 
 use crate::exchange::Exchange;
 use crate::gate::Gate;
 use call_book::LegName;
-use noted_steps::Pass;
-use peer_lock::Naming;
+use peer_lock::LedgerSet;
 use std::sync::Wait;
+use step_log::Pass;
 
-impl<G: Gate, J: Naming> Exchange<G, J> {
+impl<G: Gate, J: LedgerSet> Exchange<G, J> {
     /// Reserves a name of a peer and returns it at once, so that its number comes behind the peer's other free numbers.
     /// These are two steps of the book, and no step of the peer. Returns the name, or `None` if the book refused it.
     pub fn skip_number<R: Wait>(&self, rt: &R, pass: &mut Pass<J>, peer: u16) -> Option<LegName>

@@ -3,20 +3,24 @@
 //! `exchange_main run PLAN` and `exchange_main plan`.
 #![tactic(auto)]
 
+mod command_line;
 mod plans;
+mod usage;
 mod views;
 
+use crate::command_line::{VERSION, command_line};
 use crate::plans::{
     check_file, explain_file, octets_of_plan, print_faults, print_sample, upgrade_file,
 };
+use crate::usage::Usage;
 use crate::views::{View, view_files};
 use clap::ArgMatches;
 use clap::error::ErrorKind;
-use command_line::{VERSION, command_line};
 use control_client::{give_order, order_of};
 use exchange_commands::{ReplayFiles, replay_buffered, serve, turn_count};
 use exchange_service::{
-    CallLines, ServiceDisk, ServiceSystem, Settings, ShownNumbers, TraceOptions, run as run_service,
+    CallLines, ServiceContext, ServiceDisk, ServiceSystem, Settings, ShownNumbers, TraceOptions,
+    run as run_service,
 };
 use log::LevelFilter;
 use std::alloc::Global;
@@ -27,19 +31,6 @@ use std::rt::Files;
 use std::sync::Wait;
 use std::{env, fs, io};
 use system_limits::fill_standard;
-
-const USAGE: &str =
-    "usage: exchange_main check <plan> | replay <plan> <script> | serve <plan> <turns>\n       \
-exchange_main explain <plan>\n       \
-exchange_main plan new | upgrade <plan>\n       \
-exchange_main ladder <plan> <script> [--leg <number>] [--text]\n       \
-exchange_main pcap <plan> <script>\n       \
-exchange_main records <plan> <script>\n       \
-exchange_main run <plan> [--control <socket>] [--metrics <address:port>] [--log <level>] \
-[--log-calls] [--log-numbers full|last4|no] [--drain <seconds>] \
-[--calls <file>] [--trace <folder>] [--trace-limit <mebibytes>] [--trace-digits yes|no] [--stop-at-end-of-input]\n       \
-exchange_main ctl <socket> peers | calls | accounts | call <peer> <number> | hangup <number> | drain [off] | \
-stop [--graceful]";
 
 /// The system of the program: that of a service, with files, standard output and memory.
 trait Program: ServiceSystem + Files<File = File> + Print + Alloc {}
@@ -72,7 +63,7 @@ fn refuse_arguments<R: Eprint + Print>(rt: &R, error: &io::Error) -> u8 {
         let _ = println!(rt; "refused Memory");
         1
     } else {
-        let _ = eprintln!(rt; "{USAGE}");
+        let _ = eprintln!(rt; "{}", Usage);
         2
     }
 }
@@ -119,7 +110,7 @@ fn serve_file<R: Program>(rt: &R, alloc: Global, plan: &str, turns: &str) -> u8 
 }
 
 fn refuse_usage<R: Eprint>(rt: &R) -> u8 {
-    let _ = eprintln!(rt; "{USAGE}");
+    let _ = eprintln!(rt; "{}", Usage);
     2
 }
 
@@ -267,7 +258,13 @@ fn run_plan<R: Program, D: ServiceDisk>(
     plan: &[u8],
     settings: &Settings<'_>,
 ) -> u8 {
-    let status = run_service(rt, disk, alloc, plan, settings, &mut io::writer(rt));
+    let context = ServiceContext {
+        rt,
+        disk,
+        alloc,
+        settings,
+    };
+    let status = run_service(&context, plan, &mut io::writer(rt));
     if status != 0 {
         print_faults(rt, alloc, settings.plan_path, plan);
     }

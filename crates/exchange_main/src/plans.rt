@@ -1,6 +1,7 @@
 //! The commands on plans: `check`, `explain` and `plan`. Faults and warnings go to standard error.
 use crate::is_memory;
 use exchange_commands::check;
+use plain_text::TextBuffer;
 use plan_faults::{SAMPLE, Upgrade, write_faults, write_upgraded, write_warnings};
 use plan_report::explain;
 use std::alloc::Global;
@@ -9,7 +10,6 @@ use std::io::{ErrorKind, Read};
 use std::os::unix::fs::PermissionsExt;
 use std::rt::Files;
 use std::{fs, io};
-use text_buffer::TextBuffer;
 
 // The most octets that are read from a pipe or a device, which may have no end.
 const MOST_PIPED: usize = 0x400_0000;

@@ -2,7 +2,7 @@
 use Rattle.std.specs.Prelude.{ℕ, ◌≡◌, ◌+◌, ◌==◌, List, [], ◌++◌, codes, decimal, length, if◌then◌else◌}
 use Rattle.exchange_core.specs.Sums.{accounts_of, left_with, steps_under}
 use Rattle.exchange_report.specs.declared.accounts.MediaAccounts.{MediaAccounts}
-use Rattle.noted_steps.specs.Notes.{Noted}
+use Rattle.step_log.specs.Notes.{Noted}
 use Rattle.peer_lock.specs.Peer.{PeerView}
 
 -- The accounts are the sums over as many peers as the exchange has, which made the steps under its passes. Octets that stayed

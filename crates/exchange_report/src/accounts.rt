@@ -4,7 +4,7 @@ ghost use Rattle.std.specs.Io.KnownBytes.{Appends};
 ghost use Rattle.exchange_report.specs.Accounts.{AreSums, accounts_text};
 
 use exchange_core::{Exchange, NoGate, Pass};
-use peer_lock::Naming;
+use peer_lock::LedgerSet;
 use std::alloc::AllocError;
 use std::io;
 use std::io::Write;
@@ -40,7 +40,7 @@ pub fn write_accounts<W: Write>(accounts: &MediaAccounts, writer: &mut W) -> io:
 /// Closes the accounts of an exchange with all its passes: accepted octets were packed, wait, or were dropped.
 ///
 /// Returns `AllocError` if a request for memory was refused, or if a pass is missing.
-pub fn closed_accounts<J: Naming>(
+pub fn closed_accounts<J: LedgerSet>(
     exchange: Exchange<NoGate, J>,
     passes: Vec<Pass<J>>,
 ) -> Result<MediaAccounts, AllocError>
@@ -65,7 +65,7 @@ pub fn closed_accounts<J: Naming>(
 ///
 /// Returns `AllocError` if a request for memory was refused or a pass is missing; then nothing is written. Returns
 /// `io::Error` if the output can't be written.
-pub fn settle<J: Naming, W: Write, S: From<io::Error> + From<AllocError>>(
+pub fn settle<J: LedgerSet, W: Write, S: From<io::Error> + From<AllocError>>(
     exchange: Exchange<NoGate, J>,
     passes: Vec<Pass<J>>,
     writer: &mut W,

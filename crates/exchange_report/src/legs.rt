@@ -1,19 +1,20 @@
 //! The number of a peer's legs.
-ghost use Rattle.std.specs.Prelude.{◌≡◌, ◌<◌, length};
+ghost use Rattle.std.specs.Prelude.{◌≡◌, ◌<◌, ◌≤◌, length};
 
 use exchange_core::{Exchange, NoGate, Pass};
-use peer_lock::Naming;
+use peer_lock::LedgerSet;
 use std::sync::Wait;
 
 /// Returns the number of legs of the peer at this place of the plan, 0 ..= 512. Takes its lock once.
-pub fn count_legs<J: Naming, R: Wait>(
+pub fn count_legs<J: LedgerSet, R: Wait>(
     rt: &R,
     exchange: &Exchange<NoGate, J>,
     pass: &mut Pass<J>,
     peer: u16,
 ) -> u16
     requires { peer < length exchange.now.peers }
-    ensures { pass.new ≡ pass.old }
+    ensures pass { pass.new ≡ pass.old }
+    ensures most { result ≤ 512 }
 {
-    u16::try_from(exchange.leg_count(rt, pass, peer)).unwrap_or(u16::MAX)
+    exchange.leg_count(rt, pass, peer) as u16
 }

@@ -3,7 +3,7 @@ ghost use Rattle.std.specs.Prelude.{◌≡◌, ◌<◌, length};
 ghost use Rattle.exchange_report.specs.Losses.{frames_of};
 
 use exchange_core::{Exchange, NoGate, Pass};
-use peer_lock::{Losses, Naming};
+use peer_lock::{LedgerSet, Losses};
 use std::sync::Wait;
 
 /// The losses on the way to a peer, because too much waited, since the exchange was opened.
@@ -26,7 +26,7 @@ impl PeerLosses {
 }
 
 /// Returns the losses on the way to the peer at this place of the plan.
-pub fn losses_of<J: Naming, R: Wait>(
+pub fn losses_of<J: LedgerSet, R: Wait>(
     rt: &R,
     exchange: &Exchange<NoGate, J>,
     pass: &mut Pass<J>,

@@ -2,14 +2,15 @@
 //! writes the log, and drains the exchange at a stop.
 use crate::journal::Journal;
 use crate::running::Settings;
+use crate::service_context::ServiceContext;
 use control_requests::Request;
 use control_server::{Clients, Door, NotBound};
 use exchange_report::{count_legs, losses_of};
 use log::{Log, warn};
-use peer_lock::Naming;
-use service_desk::{Desk, Drain, answer_scrape};
-use service_log::Told;
-use service_watch::SocketTable;
+use peer_lock::LedgerSet;
+use service_api::{ApiHandler, Drain, answer_scrape};
+use service_log::LogState;
+use service_state::SocketTable;
 use std::alloc::{AllocError, Global};
 use std::fs::{File, Files};
 use std::io;
@@ -29,8 +30,8 @@ const END_MS: u64 = 500;
 /// The listeners with their clients, and the system's table of sockets.
 #[derive(Drop)]
 pub(crate) struct Control<'s> {
-    pub(crate) settings: &'s Settings<'s>,
-    pub(crate) alloc: Global,
+    settings: &'s Settings<'s>,
+    alloc: Global,
     clients: Clients,
     table: SocketTable,
     // Whether clients still wait for answers because a round was too short.
@@ -41,11 +42,15 @@ pub(crate) struct Control<'s> {
 
 impl<'s> Control<'s> {
     /// Returns a control without listeners and clients.
-    pub(crate) fn new<R: Files<File = File> + Net>(
-        rt: &R,
-        alloc: Global,
-        settings: &'s Settings<'s>,
+    pub(crate) fn new<R: Files<File = File> + Net, D>(
+        context: &ServiceContext<'s, R, D>,
     ) -> io::Result<Control<'s>> {
+        let ServiceContext {
+            rt,
+            alloc,
+            settings,
+            ..
+        } = *context;
         let clients = Clients::new(rt, alloc)?;
         Ok(Control {
             settings,
@@ -82,10 +87,10 @@ impl<'s> Control<'s> {
     }
 
     /// Answers clients and logs until the workers are to end and each answer is sent.
-    pub(crate) fn run<R: Clock + Eprint + Wait, J: Naming>(
+    pub(crate) fn run<R: Clock + Eprint + Wait, J: LedgerSet>(
         &mut self,
         rt: &R,
-        desk: &mut Desk<'_, J>,
+        desk: &mut ApiHandler<'_, J>,
         opened: Instant,
     ) {
         let log = Journal::new(rt, self.alloc, self.settings.level);
@@ -95,23 +100,23 @@ impl<'s> Control<'s> {
         let (plan, watch) = (desk.exchange.plan(), desk.watch);
         let now = moment(rt, opened, 0);
         let lines = self.settings.call_lines;
-        let mut told = Told::new(&log, self.alloc, plan, watch, calls, trace, lines, now).ok();
-        let now = self.go_on(rt, &log, desk, &mut told, opened);
+        let mut told = LogState::new(&log, self.alloc, plan, watch, calls, trace, lines, now).ok();
+        let now = self.go_on(&log, desk, &mut told, opened);
         if let Some(told) = &mut told {
             told.end_rounds();
-            self.tell(rt, &log, desk, told, now);
+            self.tell(&log, desk, told, now);
         }
     }
 
     // Runs the rounds of `run`. Returns the moment of the last one.
-    fn go_on<R: Clock + Wait, J: Naming, L: Log>(
+    fn go_on<R: Clock + Eprint + Wait, J: LedgerSet>(
         &mut self,
-        rt: &R,
-        log: &L,
-        desk: &mut Desk<'_, J>,
-        told: &mut Option<Told<'_>>,
+        log: &Journal<'_, R>,
+        desk: &mut ApiHandler<'_, J>,
+        told: &mut Option<LogState<'_>>,
         opened: Instant,
     ) -> u64 {
+        let rt = log.rt();
         let mut drain = Drain::new(self.settings.drain_ms);
         let mut now = 0;
         for _ in rt.forever() {
@@ -123,29 +128,26 @@ impl<'s> Control<'s> {
             now = moment(rt, opened, now);
             self.clients.admit(now);
             self.serve_all(rt, desk, opened, now);
-            if self.go_round(rt, log, desk, &mut drain, told, now) {
+            if let Some(told) = told {
+                self.tell(log, desk, told, now);
+            }
+            if self.go_round(rt, desk, &mut drain, now) {
                 break;
             }
         }
         now
     }
 
-    // Ends a round once clients were served. Returns whether it was the last.
-    fn go_round<R: Clock + Wait, J: Naming, L: Log>(
+    // Ends a round once clients were served and the log was written. Returns whether it was the last.
+    fn go_round<R: Clock + Wait, J: LedgerSet>(
         &mut self,
         rt: &R,
-        log: &L,
-        desk: &mut Desk<'_, J>,
+        desk: &mut ApiHandler<'_, J>,
         drain: &mut Drain,
-        told: &mut Option<Told<'_>>,
         now: u64,
     ) -> bool {
-        let alloc = self.alloc;
-        if let Some(told) = told {
-            self.tell(rt, log, desk, told, now);
-        }
         drain.go_on(rt, desk, now);
-        desk.look_for_rest(rt, alloc, now);
+        desk.look_for_rest(rt, self.alloc, now);
         desk.watch.lifecycle().has_ended() && self.are_answered(now)
     }
 
@@ -157,15 +159,14 @@ impl<'s> Control<'s> {
     }
 
     // Writes the log lines that are due. Legs are counted, and losses are read, only when the log reports them.
-    fn tell<R: Wait, J: Naming, L: Log>(
+    fn tell<R: Clock + Eprint + Wait, J: LedgerSet>(
         &mut self,
-        rt: &R,
-        log: &L,
-        desk: &mut Desk<'_, J>,
-        told: &mut Told<'_>,
+        log: &Journal<'_, R>,
+        desk: &mut ApiHandler<'_, J>,
+        told: &mut LogState<'_>,
         now: u64,
     ) {
-        let exchange = desk.exchange;
+        let (rt, exchange) = (log.rt(), desk.exchange);
         let tells_losses = told.tells_losses(now);
         let tells_reach = told.tells_reach(now);
         for peer in 0..exchange.plan().peer_count() {
@@ -187,10 +188,10 @@ impl<'s> Control<'s> {
     }
 
     // Serves each client as far as the system allows. Clients that ask for a stop are answered first.
-    fn serve_all<R: Clock + Wait, J: Naming>(
+    fn serve_all<R: Clock + Wait, J: LedgerSet>(
         &mut self,
         rt: &R,
-        desk: &mut Desk<'_, J>,
+        desk: &mut ApiHandler<'_, J>,
         opened: Instant,
         now: u64,
     ) {
@@ -218,10 +219,10 @@ impl<'s> Control<'s> {
     }
 
     // Answers clients one after another until the round's time is over. Returns false if some wait for the next round.
-    fn serve_in_time<R: Clock + Wait, J: Naming>(
+    fn serve_in_time<R: Clock + Wait, J: LedgerSet>(
         &mut self,
         rt: &R,
-        desk: &mut Desk<'_, J>,
+        desk: &mut ApiHandler<'_, J>,
         opened: Instant,
         now: u64,
     ) -> bool {
@@ -235,17 +236,20 @@ impl<'s> Control<'s> {
     }
 
     // Answers a client if its request is complete.
-    fn serve<R: Wait, J: Naming>(
+    fn serve<R: Wait, J: LedgerSet>(
         &mut self,
         rt: &R,
-        desk: &mut Desk<'_, J>,
+        desk: &mut ApiHandler<'_, J>,
         place: usize,
         now: u64,
     ) {
         let (alloc, table) = (self.alloc, &mut self.table);
         let answer = match self.clients.request(place) {
-            Some((door, request)) => {
-                Some(answer_of(rt, alloc, door, &request, desk, table, now))
+            Some((Door::Control, request)) => {
+                Some(control_answer(rt, alloc, &request, desk, now))
+            }
+            Some((Door::Metrics, request)) => {
+                Some(answer_scrape(rt, alloc, desk, table, &request, now))
             }
             None => None,
         };
@@ -255,22 +259,17 @@ impl<'s> Control<'s> {
     }
 }
 
-// Returns the answer to a complete request.
-fn answer_of<R: Wait, J: Naming>(
+// Returns the answer to a complete request at the control socket.
+fn control_answer<R: Wait, J: LedgerSet>(
     rt: &R,
     alloc: Global,
-    door: Door,
     request: &Request<'_>,
-    desk: &mut Desk<'_, J>,
-    table: &mut SocketTable,
+    desk: &mut ApiHandler<'_, J>,
     now: u64,
 ) -> Result<Vec<u8>, AllocError> {
-    match door {
-        Door::Control => match desk.answer(rt, alloc, request, now) {
-            Ok(answer) => answer.octets(alloc),
-            Err(error) => Err(error),
-        },
-        Door::Metrics => answer_scrape(rt, alloc, desk, table, request, now),
+    match desk.answer(rt, alloc, request, now) {
+        Ok(answer) => answer.octets(alloc),
+        Err(error) => Err(error),
     }
 }
 

@@ -41,6 +41,11 @@ impl<'r, R> Journal<'r, R> {
             lost: AtomicU64::new(0),
         }
     }
+
+    /// Returns the system whose standard error it writes to.
+    pub(crate) fn rt(&self) -> &'r R {
+        self.rt
+    }
 }
 
 impl<'r, R: Clock + Eprint> Journal<'r, R> {

@@ -1,23 +1,24 @@
 //! The files that a running service writes: the records of ended legs, and the trace. Each has a thread that writes it.
 use crate::faults_told::tell_trace;
-use crate::journal::Journal;
+use crate::open_service::OpenService;
 use crate::running::{Settings, TraceOptions};
+use crate::service_context::ServiceContext;
 use crate::system::{ServiceDisk, ServiceSystem};
-use call_writer::{Calendar, CallOutlets, CallRows, write_calls_beside};
+use call_files::{Calendar, CallOutlets, CallRows, write_calls_beside};
 use jiff::Timestamp;
-use log::LevelFilter;
+use peer_lock::LedgerSet;
 use peer_plan::Plan;
 use service_log::tell_end;
-use service_watch::{ServiceWatch, Wanted};
+use service_state::ServiceWatch;
 use std::alloc::{AllocError, Global};
 use std::io::ErrorKind;
 use std::sync::Wait;
 use std::thread::Threads;
-use std::time::{Clock, Instant, SystemTime};
+use std::time::{Clock, SystemTime};
 use trace_writer::{
     Folder, Trace, TraceFile, TraceFolder, TraceNotes, TraceSettings, write_trace_beside,
 };
-use worker_seats::ServiceError;
+use worker_setup::ServiceError;
 
 /// The state of the thread that writes the rows of ended legs to a file.
 #[derive(Drop)]
@@ -94,17 +95,14 @@ fn date_of(alloc: Global, calendar: Calendar) -> Result<String, AllocError> {
 
 // Opens the first file of a trace. If that fails, the log says why.
 fn first_file<R: Clock + Eprint, D: Folder>(
-    rt: &R,
-    disk: &D,
-    alloc: Global,
+    context: &ServiceContext<'_, R, D>,
     folder: &TraceFolder<'_>,
-    level: LevelFilter,
 ) -> Result<TraceFile, ServiceError> {
-    match folder.open(disk, alloc) {
+    match folder.open(context.disk, context.alloc) {
         Ok(file) => Ok(file),
         Err(error) if error.kind() == ErrorKind::OutOfMemory => Err(ServiceError::Memory),
         Err(error) => {
-            tell_trace(&Journal::new(rt, alloc, level), folder.path, &error);
+            tell_trace(&context.journal(), folder.path, &error);
             Err(ServiceError::Trace)
         }
     }
@@ -119,11 +117,8 @@ fn about(alloc: Global, settings: &Settings<'_>, calendar: Calendar) -> Result<S
 
 // Returns the state of the thread that writes the notes of `threads` threads.
 fn tracing_of<'s, R: Clock + Eprint, D: Folder>(
-    rt: &R,
-    disk: &D,
-    alloc: Global,
+    context: &ServiceContext<'s, R, D>,
     threads: usize,
-    settings: &Settings<'s>,
     options: TraceOptions<'s>,
     calendar: Calendar,
 ) -> Result<Tracing<'s>, ServiceError> {
@@ -134,9 +129,9 @@ fn tracing_of<'s, R: Clock + Eprint, D: Folder>(
     } = options;
     let limit = limit.saturating_mul(threads.saturating_sub(1) as u64);
     let folder = TraceFolder { path, limit };
-    let about = about(alloc, settings, calendar)?;
-    let notes = TraceNotes::new(alloc, threads)?;
-    let file = first_file(rt, disk, alloc, &folder, settings.level)?;
+    let about = about(context.alloc, context.settings, calendar)?;
+    let notes = TraceNotes::new(context.alloc, threads)?;
+    let file = first_file(context, &folder)?;
     Ok(Tracing {
         folder,
         shows_digits,
@@ -148,34 +143,27 @@ fn tracing_of<'s, R: Clock + Eprint, D: Folder>(
 
 // Returns the trace of the exchange's input, and its writer, if a trace is wanted.
 fn trace_of<'s, R: Clock + Eprint, D: Folder>(
-    rt: &R,
-    disk: &D,
-    alloc: Global,
+    context: &ServiceContext<'s, R, D>,
     plan: &Plan,
-    settings: &Settings<'s>,
     calendar: Calendar,
 ) -> Result<(Option<Trace>, Option<Tracing<'s>>), ServiceError> {
-    let Some(options) = settings.trace else {
+    let Some(options) = context.settings.trace else {
         return Ok((None, None));
     };
     let threads = plan.workers().len() + 1;
-    let tracing = tracing_of(rt, disk, alloc, threads, settings, options, calendar)?;
-    match Trace::new(alloc, threads, plan.number_count()) {
+    let tracing = tracing_of(context, threads, options, calendar)?;
+    match Trace::new(context.alloc, threads, plan.number_count()) {
         Ok(trace) => Ok((Some(trace), Some(tracing))),
         Err(_) => Err(ServiceError::Memory),
     }
 }
 
-// Returns the watch of a service of this plan, with its outlets and its trace.
-fn watch_with<'s>(
-    alloc: Global,
-    plan: &Plan,
-    outlets: Option<CallOutlets>,
-    trace: Option<Trace>,
-    wanted: Wanted,
+// Returns a watch that was made, and the files to be written.
+fn with_written<'s>(
+    watch: Result<ServiceWatch, AllocError>,
     written: Written<'s>,
 ) -> Result<(ServiceWatch, Written<'s>), ServiceError> {
-    match ServiceWatch::new(alloc, plan, outlets, trace, wanted) {
+    match watch {
         Ok(watch) => Ok((watch, written)),
         Err(_) => Err(ServiceError::Memory),
     }
@@ -183,20 +171,17 @@ fn watch_with<'s>(
 
 /// Returns the watch of a service of this plan, and the files to be written, if any are wanted.
 pub(crate) fn watch_of<'s, R: Clock + Eprint, D: Folder>(
-    rt: &R,
-    disk: &D,
-    alloc: Global,
+    context: &ServiceContext<'s, R, D>,
     plan: &Plan,
-    settings: &Settings<'s>,
 ) -> Result<(ServiceWatch, Written<'s>), ServiceError> {
-    let calendar = calendar(rt);
-    let (trace, tracing) = trace_of(rt, disk, alloc, plan, settings, calendar)?;
-    let log = Journal::new(rt, alloc, settings.level);
-    let wanted = settings.call_lines.wanted(&log);
+    let (alloc, settings) = (context.alloc, context.settings);
+    let calendar = calendar(context.rt);
+    let (trace, tracing) = trace_of(context, plan, calendar)?;
+    let wanted = settings.call_lines.wanted(&context.journal());
     match records_of(alloc, plan, settings.calls, calendar) {
         Ok((outlets, records)) => {
-            let written = Written { records, tracing };
-            watch_with(alloc, plan, outlets, trace, wanted, written)
+            let watch = ServiceWatch::new(alloc, plan, outlets, trace, wanted);
+            with_written(watch, Written { records, tracing })
         }
         Err(error) => Err(error),
     }
@@ -204,8 +189,7 @@ pub(crate) fn watch_of<'s, R: Clock + Eprint, D: Folder>(
 
 // Runs a service, with a thread that writes the trace if one is wanted. Returns false if a thread was refused.
 fn serve_traced<R: Clock + Threads + Wait + Sync, D: Folder + Sync, F: FnOnce() -> bool>(
-    rt: &R,
-    disk: &D,
+    context: &ServiceContext<'_, R, D>,
     plan: &Plan,
     trace: Option<&Trace>,
     tracing: &mut Option<Tracing<'_>>,
@@ -231,31 +215,32 @@ fn serve_traced<R: Clock + Threads + Wait + Sync, D: Folder + Sync, F: FnOnce() 
         shows_digits,
         about: about.as_str(),
     };
+    let ServiceContext { rt, disk, .. } = *context;
     write_trace_beside(rt, disk, trace, plan, settings, notes, file, serve)
 }
 
 /// Runs a service, with the threads that write the rows of ended legs and the trace, if these are wanted. Returns false if
 /// a thread was refused. The log reports the rows that couldn't be written.
-pub(crate) fn serve_written<R: ServiceSystem, D: ServiceDisk, F: FnOnce() -> bool>(
-    rt: &R,
-    disk: &D,
-    alloc: Global,
-    plan: &Plan,
-    watch: &ServiceWatch,
-    level: LevelFilter,
-    opened: Instant,
+pub(crate) fn serve_written<J: LedgerSet, R: ServiceSystem, D: ServiceDisk, F: FnOnce() -> bool>(
+    service: &OpenService<'_, R, D, J>,
     written: &mut Written<'_>,
     serve: F,
 ) -> bool
     requires { F.pre serve }
 {
+    let OpenService {
+        context,
+        exchange,
+        watch,
+        opened,
+    } = *service;
+    let (plan, trace) = (exchange.plan(), watch.trace());
     let Written { records, tracing } = written;
-    let trace = watch.trace();
     let Some(outlets) = watch.calls() else {
-        return serve_traced(rt, disk, plan, trace, tracing, serve);
+        return serve_traced(context, plan, trace, tracing, serve);
     };
     let Some(records) = records.take() else {
-        return serve_traced(rt, disk, plan, trace, tracing, serve);
+        return serve_traced(context, plan, trace, tracing, serve);
     };
     let Records {
         path,
@@ -264,10 +249,11 @@ pub(crate) fn serve_written<R: ServiceSystem, D: ServiceDisk, F: FnOnce() -> boo
     } = records;
     let serve_on = move ||
         requires { F.pre serve }
-    { serve_traced(rt, disk, plan, trace, tracing, serve) };
+    { serve_traced(context, plan, trace, tracing, serve) };
+    let ServiceContext { rt, disk, .. } = *context;
     let is_served = write_calls_beside(
         rt, disk, path, plan, calendar, opened, outlets, rows, serve_on,
     );
-    tell_end(&Journal::new(rt, alloc, level), path, outlets.state());
+    tell_end(&context.journal(), path, outlets.state());
     is_served
 }

@@ -3,27 +3,27 @@ ghost use Rattle.std.specs.Prelude.{◌≡◌, ◌+◌, ◌≤◌, length, vec_l
 
 use crate::control::Control;
 use crate::faults_told::tell_not_bound;
-use crate::journal::Journal;
+use crate::open_service::OpenService;
 use crate::recording::watch_of;
 use crate::seating::serve_watched;
+use crate::service_context::ServiceContext;
 use crate::system::{ServiceDisk, ServiceSystem};
 use control_server::NotBound;
 use exchange_core::{Exchange, NoGate, Pass};
 use exchange_report::{closed_accounts, settle};
 use log::LevelFilter;
 use media_ledger::Blank;
-use peer_lock::{Naming, Service};
+use peer_lock::{LedgerSet, Service};
 use peer_plan::Plan;
 use service_log::CallLines;
-use std::alloc::Global;
 use std::fs::{File, Files};
 use std::io::Write;
 use std::marker::Brand;
 use std::net::SocketAddr;
 use std::sync::ledger::Ledger;
 use std::time::Instant;
-use udp_workers::{Post, TurnReport};
-use worker_seats::{
+use udp_workers::{PlanBrand, TurnReport};
+use worker_setup::{
     ServiceError, first_serial, service_error_name, tell_reports, with_drawn, with_spare_pass,
 };
 
@@ -73,10 +73,20 @@ pub struct TraceOptions<'a> {
     pub shows_digits: bool,
 }
 
+// The values from which the exchange of a service is opened, and the moment of the opening.
+#[derive(Drop)]
+struct Opening {
+    plan: Plan,
+    octets: Blank,
+    steps: Blank,
+    // The serial of its first leg.
+    first_serial: u64,
+    opened: Instant,
+}
+
 // Runs the workers of the plan with a watch that is made for it. (The match has only two exits, and each drops the watch.)
-fn serve_beside<J: Naming, P: Post + Send + Sync, R: ServiceSystem, D: ServiceDisk>(
-    rt: &R,
-    disk: &D,
+fn serve_beside<J: LedgerSet, P: PlanBrand + Send + Sync, R: ServiceSystem, D: ServiceDisk>(
+    context: &ServiceContext<'_, R, D>,
     exchange: &Exchange<NoGate, J>,
     passes: &mut Vec<Pass<J>>,
     control: &mut Control<'_>,
@@ -85,53 +95,54 @@ fn serve_beside<J: Naming, P: Post + Send + Sync, R: ServiceSystem, D: ServiceDi
     requires plan { exchange.now ≡ P.plan }
     requires enough { length exchange.now.workers + 1 ≤ vec_len passes.old }
 {
-    match watch_of(rt, disk, control.alloc, exchange.plan(), control.settings) {
+    match watch_of(context, exchange.plan()) {
         Ok(both) => {
             let mut both = both;
             let lent = &mut both;
-            serve_watched::<J, P, R, D>(
-                rt,
-                disk,
+            let service = OpenService {
+                context,
                 exchange,
-                &lent.0,
-                &mut lent.1,
-                passes,
-                control,
+                watch: &lent.0,
                 opened,
-            )
+            };
+            serve_watched::<J, P, R, D>(&service, &mut lent.1, passes, control)
         }
         Err(error) => Err(error),
     }
 }
 
-// Runs the workers on an exchange opened for the plan, with the ledgers and the plan that the caller names; its first leg has
-// this serial. Then writes their reports and the accounts.
+// Runs the workers on an exchange that it opens, with the ledgers and the plan that the caller names. Then writes their reports
+// and the accounts.
 fn work<
     O: Ledger + Send + Sync,
     S: Ledger + Send + Sync,
-    P: Post + Send + Sync,
+    P: PlanBrand + Send + Sync,
     R: ServiceSystem,
     D: ServiceDisk,
     W: Write,
 >(
-    rt: &R,
-    disk: &D,
-    plan: Plan,
+    context: &ServiceContext<'_, R, D>,
+    opening: Opening,
     control: &mut Control<'_>,
-    opened: Instant,
     writer: &mut W,
-    octets: Blank,
-    steps: Blank,
-    first_serial: u64,
 ) -> Result<(), ServiceError>
-    requires plan { plan ≡ P.plan }
-    requires enough { length plan.workers + 1 ≤ plan.passes }
-    requires octets { (octets.name ≡ O.name) × (octets.parts ≡ O.parts) × (octets.parts ≡ length plan.peers + plan.passes) }
-    requires steps { (steps.name ≡ S.name) × (steps.parts ≡ S.parts) × (steps.parts ≡ length plan.peers + plan.passes) }
+    requires plan { opening.plan ≡ P.plan }
+    requires enough { length opening.plan.workers + 1 ≤ opening.plan.passes }
+    requires octets { (opening.octets.name ≡ O.name) × (opening.octets.parts ≡ O.parts) ×
+        (opening.octets.parts ≡ length opening.plan.peers + opening.plan.passes) }
+    requires steps { (opening.steps.name ≡ S.name) × (opening.steps.parts ≡ S.parts) ×
+        (opening.steps.parts ≡ length opening.plan.peers + opening.plan.passes) }
 {
+    let Opening {
+        plan,
+        octets,
+        steps,
+        first_serial,
+        opened,
+    } = opening;
     let _passes = plan.passes();
     let exchange = Exchange::<NoGate, Service<O, S>>::open_at(
-        control.alloc,
+        context.alloc,
         plan,
         NoGate,
         octets,
@@ -141,7 +152,7 @@ fn work<
     let Ok((exchange, mut passes)) = exchange else {
         return Err(ServiceError::Memory);
     };
-    let reports = serve_beside::<_, P, R, D>(rt, disk, &exchange, &mut passes, control, opened);
+    let reports = serve_beside::<_, P, R, D>(context, &exchange, &mut passes, control, opened);
     match tell_reports(reports, writer) {
         Ok(()) => settle(exchange, passes, writer),
         // Closed and not dropped, because a drop would have to be proved here field by field.
@@ -154,16 +165,16 @@ fn work<
 
 // Runs the service of a valid plan.
 fn serve_plan<R: ServiceSystem, D: ServiceDisk, W: Write>(
-    rt: &R,
-    disk: &D,
+    context: &ServiceContext<'_, R, D>,
     plan: Plan,
     control: &mut Control<'_>,
     writer: &mut W,
 ) -> Result<(), ServiceError> {
+    let rt = context.rt;
     let Ok(opened) = Instant::now(rt) else {
         return Err(ServiceError::Clock);
     };
-    let serial = match first_serial(rt) {
+    let first_serial = match first_serial(rt) {
         Ok(serial) => serial,
         Err(error) => return Err(error),
     };
@@ -172,10 +183,14 @@ fn serve_plan<R: ServiceSystem, D: ServiceDisk, W: Write>(
         Err(error) => return Err(error),
     };
     let parts = u64::from(plan.peer_count()) + u64::from(plan.passes());
-    let (octets, steps) = (Blank::new(parts), Blank::new(parts));
-    work::<Brand, Brand, Brand, R, D, W>(
-        rt, disk, plan, control, opened, writer, octets, steps, serial,
-    )
+    let opening = Opening {
+        plan,
+        octets: Blank::new(parts),
+        steps: Blank::new(parts),
+        first_serial,
+        opened,
+    };
+    work::<Brand, Brand, Brand, R, D, W>(context, opening, control, writer)
 }
 
 fn refuse<W: Write>(writer: &mut W, name: &str) -> u8 {
@@ -184,49 +199,39 @@ fn refuse<W: Write>(writer: &mut W, name: &str) -> u8 {
 }
 
 // Returns the status for a listener that isn't bound, which the log names.
-fn refuse_way<R: ServiceSystem, W: Write>(
-    rt: &R,
-    alloc: Global,
-    settings: &Settings<'_>,
+fn refuse_way<R: ServiceSystem, D: ServiceDisk, W: Write>(
+    context: &ServiceContext<'_, R, D>,
     fault: NotBound,
     writer: &mut W,
 ) -> u8 {
-    let log = Journal::new(rt, alloc, settings.level);
-    tell_not_bound(&log, settings, fault);
+    tell_not_bound(&context.journal(), context.settings, fault);
     refuse(writer, fault.name)
 }
 
 // Runs the service once the wanted listeners are bound. Afterwards the file of the control socket is gone.
 fn serve_open<R: ServiceSystem + Files<File = File>, D: ServiceDisk, W: Write>(
-    rt: &R,
-    disk: &D,
+    context: &ServiceContext<'_, R, D>,
     plan: Plan,
     control: &mut Control<'_>,
     writer: &mut W,
 ) -> u8 {
-    let status = match control.open(rt) {
-        Ok(()) => status_of(serve_plan(rt, disk, plan, control, writer), writer),
-        Err(fault) => refuse_way(rt, control.alloc, control.settings, fault, writer),
+    let status = match control.open(context.rt) {
+        Ok(()) => status_of(serve_plan(context, plan, control, writer), writer),
+        Err(fault) => refuse_way(context, fault, writer),
     };
-    control.close(rt);
+    control.close(context.rt);
     status
 }
 
 // Runs it with the limits that the listeners need of the system.
 fn serve_through<R: ServiceSystem + Files<File = File>, D: ServiceDisk, W: Write>(
-    rt: &R,
-    disk: &D,
-    alloc: Global,
+    context: &ServiceContext<'_, R, D>,
     plan: Plan,
-    settings: &Settings<'_>,
     writer: &mut W,
 ) -> u8 {
-    match Control::new(rt, alloc, settings) {
-        Ok(mut control) => serve_open(rt, disk, plan, &mut control, writer),
-        Err(error) => {
-            let fault = NotBound::of(&error, "Control");
-            refuse_way(rt, alloc, settings, fault, writer)
-        }
+    match Control::new(context) {
+        Ok(mut control) => serve_open(context, plan, &mut control, writer),
+        Err(error) => refuse_way(context, NotBound::of(&error, "Control"), writer),
     }
 }
 
@@ -260,18 +265,15 @@ fn status_of<W: Write>(served: Result<(), ServiceError>, writer: &mut W) -> u8 {
 /// If `trace` names a folder, a thread writes the exchange's input to it, as a script that `replay` reads
 /// (`docs/INCIDENTS.md`).
 ///
-/// If `calls` names a file, a thread appends the record of each ended leg to it (`docs/RECORDS.md`), through `disk`. Calls
+/// If `calls` names a file, a thread appends the record of each ended leg to it (`docs/RECORDS.md`), on the context's disk. Calls
 /// continue whether or not these files can be written.
 pub fn run<R: ServiceSystem + Files<File = File>, D: ServiceDisk, W: Write>(
-    rt: &R,
-    disk: &D,
-    alloc: Global,
+    context: &ServiceContext<'_, R, D>,
     plan: &[u8],
-    settings: &Settings<'_>,
     writer: &mut W,
 ) -> u8 {
-    match Plan::read(alloc, plan) {
-        Ok(plan) => serve_through(rt, disk, alloc, plan, settings, writer),
+    match Plan::read(context.alloc, plan) {
+        Ok(plan) => serve_through(context, plan, writer),
         Err(fault) => {
             let _ = writeln!(writer, "refused {fault}");
             1

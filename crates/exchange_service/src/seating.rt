@@ -4,137 +4,144 @@ ghost use Rattle.std.specs.Prelude.{◌≡◌, ◌+◌, ◌≤◌, IfOk, OnOk, l
 use crate::control::Control;
 use crate::faults_told::tell_workers;
 use crate::journal::Journal;
+use crate::open_service::OpenService;
 use crate::recording::{Written, serve_written};
 use crate::running::Settings;
 use crate::service_sockets::ServiceSockets;
 use crate::system::{ServiceDisk, ServiceSystem};
 use control_server::CLIENTS;
-use exchange_core::{Exchange, NoGate, Pass};
+use exchange_core::{NoGate, Pass};
 use log::{error, warn};
-use peer_lock::Naming;
+use peer_lock::LedgerSet;
 use peer_plan::Plan;
-use service_desk::Desk;
+use service_api::ApiHandler;
 use service_log::tell_start;
-use service_watch::ServiceWatch;
-use std::alloc::Global;
+use service_state::ServiceWatch;
 use std::marker::PhantomData;
 use std::net::Net;
 use std::random::RandomSource;
 use std::sync::Wait;
 use std::thread;
-use std::time::{Clock, Instant};
+use std::time::Clock;
 use system_limits::{has_free, user};
-use udp_workers::{Intake, MOST_TURNS, Post, TurnReport, WatchedExchange};
-use worker_seats::{ServiceError, ServiceSeat, lane_of, reports_of, seats_of, skip_numbers};
+use udp_workers::{Intake, MOST_TURNS, PlanBrand, TurnReport, WatchedExchange};
+use worker_setup::{
+    SeatContext, ServiceError, ServiceSeat, lane_of, reports_of, seats_of, skip_numbers,
+};
 
 /// Runs the workers next to the control socket until they are to end. Returns false if a thread was refused; then all end
 /// at once.
-pub(crate) fn serve_seats<J: Naming, P: Post + Send + Sync, R: ServiceSystem>(
-    rt: &R,
-    service: &WatchedExchange<'_, ServiceWatch, NoGate, J, P>,
+pub(crate) fn serve_seats<
+    J: LedgerSet,
+    P: PlanBrand + Send + Sync,
+    R: ServiceSystem,
+    D: ServiceDisk,
+>(
+    service: &OpenService<'_, R, D, J>,
+    watched: &WatchedExchange<'_, ServiceWatch, NoGate, J, P>,
     seats: &[ServiceSeat<'_, R, J, P>],
-    desk: &mut Desk<'_, J>,
+    desk: &mut ApiHandler<'_, J>,
     control: &mut Control<'_>,
-    opened: Instant,
 ) -> bool {
+    let (rt, opened) = (service.context.rt, service.opened);
     thread::scope(thread::scope_env(), rt, |scope| {
-        let started = service.start_until(rt, scope, seats);
+        let started = watched.start_until(rt, scope, seats);
         control.run(rt, desk, opened);
         started
     })
 }
 
 // Makes the seats of the workers; the watch keeps their wakers. Logs the start, and the receive buffers of their sockets.
-fn told_seats<'r, J: Naming, P: Post, R: Clock + Eprint + Net + RandomSource + Wait>(
-    rt: &'r R,
-    alloc: Global,
-    plan: &'r Plan,
+fn told_seats<
+    'x,
+    J: LedgerSet,
+    P: PlanBrand,
+    R: Clock + Eprint + Net + RandomSource + Wait,
+    D: ServiceDisk,
+>(
+    service: &OpenService<'x, R, D, J>,
     passes: &mut Vec<Pass<J>>,
-    settings: &Settings<'_>,
-    opened: Instant,
-    watch: &'r ServiceWatch,
-) -> Result<Vec<ServiceSeat<'r, R, J, P>>, ServiceError>
-    requires plan { plan.now ≡ P.plan }
-    requires enough { length plan.now.workers + 1 ≤ vec_len passes.old }
+) -> Result<Vec<ServiceSeat<'x, R, J, P>>, ServiceError>
+    requires plan { service.now.exchange.now ≡ P.plan }
+    requires enough { length service.now.exchange.now.workers + 1 ≤ vec_len passes.old }
     ensures few { IfOk result (λ seats. vec_len seats ≤ 8) }
     ensures left { OnOk result (1 ≤ vec_len passes.new) }
 {
-    let log = Journal::new(rt, alloc, settings.level);
+    let OpenService {
+        context,
+        exchange,
+        watch,
+        opened,
+    } = *service;
+    let (plan, settings, log) = (exchange.plan(), context.settings, context.journal());
     tell_start(&log, plan, settings.version, settings.plan_path);
     if user() == 0 {
         warn!(log; "runs as root: a user of its own is enough");
     }
     let sockets = ServiceSockets { log: &log, watch };
-    let seats = seats_of::<J, P, R, ServiceSockets<'_, Journal<'_, R>>>(
-        rt,
-        alloc,
+    let seat_context = SeatContext {
+        rt: context.rt,
+        alloc: context.alloc,
         plan,
-        passes,
         opened,
+        trace: watch.trace(),
+    };
+    let seats = seats_of::<J, P, R, ServiceSockets<'_, Journal<'_, R>>>(
+        &seat_context,
         &sockets,
-        watch.trace(),
+        passes,
     );
     if let Err(ServiceError::Bind) = &seats {
-        tell_workers(rt, &log, plan);
+        tell_workers(context.rt, &log, plan);
     }
     seats
 }
 
 // Runs the seats next to a control socket, whose pass is then added back to `passes`.
-fn serve_seated<J: Naming, P: Post + Send + Sync, R: ServiceSystem, D: ServiceDisk>(
-    rt: &R,
-    disk: &D,
-    exchange: &Exchange<NoGate, J>,
-    watch: &ServiceWatch,
+fn serve_seated<J: LedgerSet, P: PlanBrand + Send + Sync, R: ServiceSystem, D: ServiceDisk>(
+    service: &OpenService<'_, R, D, J>,
     written: &mut Written<'_>,
     seats: &[ServiceSeat<'_, R, J, P>],
     passes: &mut Vec<Pass<J>>,
     control: &mut Control<'_>,
-    opened: Instant,
 ) -> Result<(), ServiceError>
-    requires plan { exchange.now ≡ P.plan }
+    requires plan { service.now.exchange.now ≡ P.plan }
     requires left { 1 ≤ vec_len passes.old }
 {
-    let lane = match lane_of(
-        control.alloc,
-        watch.trace(),
-        exchange.plan().workers().len(),
-    ) {
+    let OpenService {
+        context,
+        exchange,
+        watch,
+        ..
+    } = *service;
+    let place = exchange.plan().workers().len();
+    let lane = match lane_of(context.alloc, watch.trace(), place) {
         Ok(lane) => lane,
         Err(error) => return Err(error),
     };
-    let mut desk = Desk {
+    let mut desk = ApiHandler {
         exchange,
         pass: passes.remove(0),
         watch,
         lane,
     };
-    let service = WatchedExchange {
+    let watched = WatchedExchange {
         exchange,
         watch,
         intake: Intake::Bounded,
         turns: MOST_TURNS,
         post: PhantomData,
     };
-    let (plan, level, alloc) = (exchange.plan(), control.settings.level, control.alloc);
     let lent = &mut desk;
-    let is_served = serve_written(
-        rt,
-        disk,
-        alloc,
-        plan,
-        watch,
-        level,
-        opened,
-        written,
-        move || { serve_seats::<J, P, R>(rt, &service, seats, lent, control, opened) },
-    );
-    let Desk { pass, .. } = desk;
+    let is_served = serve_written(service, written, move || {
+        serve_seats::<J, P, R, D>(service, &watched, seats, lent, control)
+    });
+    let ApiHandler { pass, .. } = desk;
     give_back(pass, passes, is_served)
 }
 
 // Adds a pass back to `passes`. Returns the result of the service that had it.
-fn give_back<J: Naming>(
+fn give_back<J: LedgerSet>(
     pass: Pass<J>,
     passes: &mut Vec<Pass<J>>,
     is_served: bool,
@@ -165,39 +172,42 @@ fn descriptors_of(plan: &Plan, settings: &Settings<'_>) -> usize {
 }
 
 /// Runs the workers of the plan. Their passes and that of the control socket are then added back to `passes`.
-pub(crate) fn serve_watched<J: Naming, P: Post + Send + Sync, R: ServiceSystem, D: ServiceDisk>(
-    rt: &R,
-    disk: &D,
-    exchange: &Exchange<NoGate, J>,
-    watch: &ServiceWatch,
+pub(crate) fn serve_watched<
+    J: LedgerSet,
+    P: PlanBrand + Send + Sync,
+    R: ServiceSystem,
+    D: ServiceDisk,
+>(
+    service: &OpenService<'_, R, D, J>,
     written: &mut Written<'_>,
     passes: &mut Vec<Pass<J>>,
     control: &mut Control<'_>,
-    opened: Instant,
 ) -> Result<Vec<TurnReport>, ServiceError>
-    requires plan { exchange.now ≡ P.plan }
-    requires enough { length exchange.now.workers + 1 ≤ vec_len passes.old }
+    requires plan { service.now.exchange.now ≡ P.plan }
+    requires enough { length service.now.exchange.now.workers + 1 ≤ vec_len passes.old }
 {
-    let (alloc, plan, settings) = (control.alloc, exchange.plan(), control.settings);
-    if !has_free(descriptors_of(plan, settings)) {
-        let log = Journal::new(rt, alloc, settings.level);
+    let OpenService {
+        context,
+        exchange,
+        watch,
+        ..
+    } = *service;
+    if !has_free(descriptors_of(exchange.plan(), context.settings)) {
+        let log = context.journal();
         error!(log; "more files have to be opened than the process may open");
         return Err(ServiceError::Descriptors);
     }
     let pass = &mut passes[0];
-    match skip_numbers(rt, exchange, pass, watch.trace()) {
+    match skip_numbers(context.rt, exchange, pass, watch.trace()) {
         Ok(()) => {}
         Err(error) => return Err(error),
     }
-    let seats = told_seats::<J, P, R>(rt, alloc, plan, passes, settings, opened, watch);
-    let seats = match seats {
+    let seats = match told_seats::<J, P, R, D>(service, passes) {
         Ok(seats) => seats,
         Err(error) => return Err(error),
     };
-    let served = serve_seated::<J, P, R, D>(
-        rt, disk, exchange, watch, written, &seats, passes, control, opened,
-    );
-    let reports = reports_of(alloc, seats, passes);
+    let served = serve_seated::<J, P, R, D>(service, written, &seats, passes, control);
+    let reports = reports_of(context.alloc, seats, passes);
     match served {
         Ok(()) => reports,
         Err(error) => Err(error),

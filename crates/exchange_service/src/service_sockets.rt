@@ -2,10 +2,10 @@
 //! larger, and each worker has a waker.
 use libc::net as system;
 use log::{Log, info, warn};
-use service_watch::ServiceWatch;
+use service_state::ServiceWatch;
 use std::os::fd::RawFd;
 use udp_wires::WireWaker;
-use worker_seats::Sockets;
+use worker_setup::Sockets;
 
 /// Workers of one endpoint share it. Each socket asks for its share of the receive buffer. The log reports the size that a
 /// worker's own socket got; the sockets connected to its peers have the same. The watch keeps the wakers.

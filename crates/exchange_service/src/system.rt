@@ -1,5 +1,5 @@
 //! The parts of the system that a service uses.
-use call_writer::Disk;
+use call_files::Disk;
 use std::net::Net;
 use std::random::RandomSource;
 use std::sync::Wait;

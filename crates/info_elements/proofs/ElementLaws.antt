@@ -1,5 +1,6 @@
 -- A text of information elements is a text of items.
-use Rattle.std.proofs.Common.{◌≡◌, ℕ, ◌<◌, ◌≤◌, Bool, true, false, cond, leb, eqb, List, [], ◌∷◌, ◌++◌, length, take, drop, Option, Some, None, refl, ap, ◌∙◌, sym, subst, arith, length-append}
+use Rattle.std.proofs.Common.{◌≡◌, ℕ, ◌<◌, ◌≤◌, Bool, true, false, cond, leb, eqb, List, [], ◌∷◌, ◌++◌, length, take, drop}
+use Rattle.std.proofs.Common.{Option, Some, None, refl, ap, ◌∙◌, sym, subst, arith, length-append}
 use Rattle.std.specs.Prelude.{IfNone}
 use Rattle.std.proofs.lemmas.Bool.{leb-true, le-leb}
 use Rattle.std.proofs.lemmas.Bool.Decides.{nat_tests}
@@ -13,7 +14,8 @@ pair_is : (b : Bool) (x y : Element × List ℕ) → cond b (Some x) None ≡ So
 pair_is true x y e = (refl, cc)
 pair_is false x y e = absurd cc
 
-takes : (bytes : List ℕ) (item : Element) (rest : List ℕ) → IsOctets bytes → first_element bytes ≡ Some (item, rest) → IsElement item × (bytes ≡ element item ++ rest)
+takes : (bytes : List ℕ) (item : Element) (rest : List ℕ) → IsOctets bytes → first_element bytes ≡ Some (item, rest)
+    → IsElement item × (bytes ≡ element item ++ rest)
 takes [] item rest octets e = absurd cc
 takes (n ∷ []) item rest octets e = absurd cc
 takes (n ∷ len ∷ more) item rest octets e =
@@ -29,7 +31,8 @@ takes (n ∷ len ∷ more) item rest octets e =
 pub format : IsFormat element IsElement first_element
 format = record {
   again = λ item rest is.
-      let fits : leb (length item.value) (length (item.value ++ rest)) ≡ true = le-leb _ _ (omega (arith, length-append item.value rest)) in
+      let fits : leb (length item.value) (length (item.value ++ rest)) ≡ true =
+      le-leb _ _ (omega (arith, length-append item.value rest)) in
       rw (fits, take_at item.value rest (length item.value) refl, drop_at item.value rest (length item.value) refl) refl;
   takes = takes;
   some = λ item. omega arith;
@@ -37,7 +40,8 @@ format = record {
 }
 
 -- the elements of a text, whatever follows the whole ones
-pub elements_of-more : (rest after : List ℕ) (e : Element) → IsOctets rest → first_element rest ≡ Some (e, after) → elements_of rest ≡ e ∷ elements_of after
+pub elements_of-more : (rest after : List ℕ) (e : Element) → IsOctets rest → first_element rest ≡ Some (e, after)
+    → elements_of rest ≡ e ∷ elements_of after
 elements_of-more rest after e octets is = items_of-front element IsElement first_element format rest after e octets is
 
 pub elements_of-none : (rest : List ℕ) → first_element rest ≡ None → elements_of rest ≡ []
@@ -59,13 +63,15 @@ if_false : (a b : ℕ) (x : Option (List ℕ)) → (a ≡ b → ⊥) → cond (e
 if_false a b x e = grind (arith, nat_tests, e)
 
 -- one element more was read: it has the number
-pub last_of-found : (number : ℕ) (e : Element) (es : List Element) (found : Option (List ℕ)) → e.number ≡ number → or (last_of number (e ∷ es)) found ≡ or (last_of number es) (Some e.value)
+pub last_of-found : (number : ℕ) (e : Element) (es : List Element) (found : Option (List ℕ)) → e.number ≡ number
+    → or (last_of number (e ∷ es)) found ≡ or (last_of number es) (Some e.value)
 last_of-found number e es found same =
     or-or (last_of number es) _ found
     ∙ ap (λ (o : Option (List ℕ)). or (last_of number es) (or o found)) (if_true e.number number (Some e.value) same)
 
 -- one element more was read: it has another number
-pub last_of-passed : (number : ℕ) (e : Element) (es : List Element) (found : Option (List ℕ)) → (e.number ≡ number → ⊥) → or (last_of number (e ∷ es)) found ≡ or (last_of number es) found
+pub last_of-passed : (number : ℕ) (e : Element) (es : List Element) (found : Option (List ℕ)) → (e.number ≡ number → ⊥)
+    → or (last_of number (e ∷ es)) found ≡ or (last_of number es) found
 last_of-passed number e es found other =
     or-or (last_of number es) _ found
     ∙ ap (λ (o : Option (List ℕ)). or (last_of number es) (or o found)) (if_false e.number number (Some e.value) other)

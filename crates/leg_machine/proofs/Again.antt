@@ -5,13 +5,15 @@ use Rattle.iax_frames.specs.declared.stored_frame.Frame.{Frame}
 use Rattle.seq_window.specs.Window.{numbered_from, Sending}
 
 -- no more frames are held than have a sending
-pub length-numbered_from : (first : ℕ) (frames : List Frame) (sendings : List Sending) → length (numbered_from first frames sendings) ≤ length sendings
+pub length-numbered_from : (first : ℕ) (frames : List Frame) (sendings : List Sending)
+    → length (numbered_from first frames sendings) ≤ length sendings
 length-numbered_from first [] sendings = omega arith
 length-numbered_from first (f ∷ frames) [] = omega arith
 length-numbered_from first (f ∷ frames) (s ∷ sendings) = omega (arith, length-numbered_from (first + 1) frames sendings)
 
 -- one more member of a mapped front
-pub map-take_more : {A B : Type 0} (f : A → B) (xs : List A) (i : ℕ) (x : A) → slice_get xs i ≡ Some x → map f (take (i + 1) xs) ≡ map f (take i xs) ++ f x ∷ []
+pub map-take_more : {A B : Type 0} (f : A → B) (xs : List A) (i : ℕ) (x : A) → slice_get xs i ≡ Some x
+    → map f (take (i + 1) xs) ≡ map f (take i xs) ++ f x ∷ []
 map-take_more f [] i x is = cc
 map-take_more f (y ∷ ys) zero x is = let e : y ≡ x = cc in rw e refl
 map-take_more f (y ∷ ys) (suc i) x is =

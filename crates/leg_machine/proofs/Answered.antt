@@ -15,13 +15,15 @@ use Rattle.call_signals.specs.declared.signal.Onward.{Onward}
 -- ---- calls that may be refused
 
 -- The leg's record grows as it may, the frames sent are sendings from it, and its sent frames are numbered.
-pub record Answers {A E : Type 0} (result : Result A E) (Grows : LegState → Type 0) (IsSent : LegState → List ℕ → Type 0) (new : LegState) (outs : List (List ℕ)) : Type 0 where
+pub record Answers {A E : Type 0} (result : Result A E) (Grows : LegState → Type 0) (IsSent : LegState → List ℕ → Type 0)
+    (new : LegState) (outs : List (List ℕ)) : Type 0 where
   pub tied : OnOk result (Grows new)
   pub sendings : OnOk result (All (IsSent new) outs)
   pub numbered : SendsNumbered new
 
 -- a call that isn't refused leaves the leg as its step does, and sends what the step sends
-pub answers : {A E : Type 0} (result : Result A E) (Grows : LegState → Type 0) (IsSent : LegState → List ℕ → Type 0) (old step new : LegState)
+pub answers : {A E : Type 0} (result : Result A E) (Grows : LegState → Type 0) (IsSent : LegState → List ℕ → Type 0)
+    (old step new : LegState)
     (datagrams outs : List (List ℕ)) → Grows step → SendsNumbered step → All (IsSent step) datagrams → SendsNumbered old
     → OnOk result (new ≡ step) → OnOk result (outs ≡ datagrams) → OnErr result (new ≡ old) → Answers result Grows IsSent new outs
 answers (Ok x) Grows IsSent old step new datagrams outs grows numbered sendings all leg replies stays = record {
@@ -38,7 +40,8 @@ abbrev pub outcome : Judged → List (List ℕ) → Option Onward → Outcome
 outcome judged datagrams handed = record { judged = judged; replies = datagrams; onward = handed }
 
 -- a call's outcome is that of its step
-pub outcome-is : (step : Step) (leg : LegState) (heard : Heard) (datagrams : List (List ℕ)) (handed : Option Onward) → leg ≡ step.leg
+pub outcome-is : (step : Step) (leg : LegState) (heard : Heard) (datagrams : List (List ℕ)) (handed : Option Onward)
+    → leg ≡ step.leg
     → datagrams ≡ map spelling step.replies → heard ≡ heard_of step → handed ≡ onward_if leg heard.signal
     → outcome heard.judged datagrams handed ≡ outcome_of step
 outcome-is step leg heard datagrams handed leg-is spelt answer up =

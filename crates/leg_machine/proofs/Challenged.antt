@@ -1,6 +1,7 @@
 -- The steps of a leg that waits for the answer to its challenge, and of a leg that another challenges.
 use Rattle.std.specs.Prelude.{◌&&◌, ◌||◌, ◌==◌, nat_lt, is_some}
-use Rattle.std.proofs.Common.{◌≡◌, ◌≤◌, ◌+◌, ℕ, Bool, true, false, cond, List, [], ◌∷◌, ◌++◌, length, Option, None, Some, refl, sym, ap, subst, ◌∙◌, arith, length-append}
+use Rattle.std.proofs.Common.{◌≡◌, ◌≤◌, ◌+◌, ℕ, Bool, true, false, cond, List, [], ◌∷◌, ◌++◌, length, Option, None, Some, refl}
+use Rattle.std.proofs.Common.{sym, ap, subst, ◌∙◌, arith, length-append}
 use Rattle.std.proofs.lemmas.Bool.Decides.{nat_tests}
 use Rattle.std.proofs.lemmas.List.Sums.{sum_by-append}
 use Rattle.iax_frames.specs.FullFrame.{FullFrame}
@@ -8,14 +9,17 @@ use Rattle.iax_frames.specs.declared.stored_frame.Frame.{Frame}
 use Rattle.seq_window.specs.Entry.{Entry, Sent, Acked}
 use Rattle.seq_window.specs.History.{data_len, data_octets}
 use Rattle.seq_window.specs.Turn.{entries_for_acknowledgement, entries_for_frame, entries_for_reply}
-use Rattle.seq_window.specs.Window.{count_of, entry_count, held_count, entries_for_count, entries_for_number, judged_acknowledgement, judged_number}
+use Rattle.seq_window.specs.Window.{count_of, entry_count, held_count, entries_for_count, entries_for_number}
+use Rattle.seq_window.specs.Window.{judged_acknowledgement, judged_number}
 use Rattle.seq_window.specs.declared.judgements.Received.{Received}
 use Rattle.seq_window.specs.declared.judgements.Received.TheVariants as received
-use Rattle.leg_machine.specs.Leg.{LegState, end_failure, staged, failed, is_challenged, is_overdue, is_record_full, is_short_of_entries, is_short_of_octets}
+use Rattle.leg_machine.specs.Leg.{LegState, end_failure, staged, failed, is_challenged, is_overdue, is_record_full}
+use Rattle.leg_machine.specs.Leg.{is_short_of_entries, is_short_of_octets}
 use Rattle.leg_machine.specs.LegTable.{challenged, effect_at, effect_of, is_reflected, waiting}
 use Rattle.leg_machine.specs.Effects.{hung_up, rejected, row}
 use Rattle.leg_machine.specs.Replies.{data_of, reply_frame}
-use Rattle.leg_machine.specs.Steps.{Step, answered, asking, full_step, judged_step, no_room, not_asking, nothing_sent, oldest_step, prepared, replied, resend_step, taken as taken_leg}
+use Rattle.leg_machine.specs.Steps.{Step, answered, asking, full_step, judged_step, no_room, not_asking, nothing_sent}
+use Rattle.leg_machine.specs.Steps.{oldest_step, prepared, replied, resend_step, taken as taken_leg}
 use Rattle.leg_machine.specs.Ticks.{Tick, due_frames, quiet, tick_step}
 use Rattle.leg_machine.specs.Tie.{TakesTurn, numbered_frame}
 use Rattle.leg_machine.specs.Working.{acknowledged, learnt, stored, vnak_noted, wants_vnak}
@@ -40,7 +44,8 @@ last-fails true true = refl
 last-fails true false = refl
 last-fails false b = refl
 
-pub reflected-refused : (leg : LegState) (frame : FullFrame) → is_reflected leg.rules frame ≡ true → waiting leg frame messages.AuthReq ≡ hung_up CallRejected
+pub reflected-refused : (leg : LegState) (frame : FullFrame) → is_reflected leg.rules frame ≡ true
+    → waiting leg frame messages.AuthReq ≡ hung_up CallRejected
 reflected-refused leg frame back = rw (back, last-fails) refl
 
 pub unhardened-answers : (rules : PeerRules) (frame : FullFrame) → rules.is_hardened ≡ false → is_reflected rules frame ≡ false
@@ -56,7 +61,8 @@ IsShort Silent = Unit {0}
 
 challenged-short : (leg : LegState) (frame : FullFrame) (message : Message) → IsShort (challenged leg frame message).answer
 challenged-short leg frame messages.AuthRep =
-    either (λ (e : Effect). IsShort e.answer) _ (row Silent stages.Offered (Some signals.Offered)) (rejected CallRejected) tt (λ other. omega arith)
+    either (λ (e : Effect). IsShort e.answer) _ (row Silent stages.Offered (Some signals.Offered)) (rejected CallRejected) tt
+    (λ other. omega arith)
 challenged-short leg frame messages.Ping = λ other. omega arith
 challenged-short leg frame messages.LagRq = λ other. omega arith
 challenged-short leg frame messages.UnknownIax = λ other. omega arith
@@ -80,7 +86,8 @@ prepared-kept leg frame =
       no-kept (count_of (judged_acknowledgement leg.window.history frame.head.iseqno)),
     )
 
-number-kept : (judged : Received) (frame : FullFrame) → data_octets (entries_for_number judged (stored frame)) ≤ length frame.payload
+number-kept : (judged : Received) (frame : FullFrame) → data_octets (entries_for_number judged (stored frame))
+    ≤ length frame.payload
 number-kept received.Taken frame = omega arith
 number-kept received.Repeat frame = omega arith
 number-kept received.Gap frame = omega arith
@@ -114,7 +121,8 @@ and-left false b both = cc
 never : (a : Bool) → a ≡ false → a ≡ true → ⊥
 never a fails holds = let both : true ≡ false = sym holds ∙ fails in cc
 
-prepared-stage : (leg : LegState) (frame : FullFrame) → leg.stage ≡ stages.Challenged → (prepared leg frame).stage ≡ stages.Challenged
+prepared-stage : (leg : LegState) (frame : FullFrame) → leg.stage ≡ stages.Challenged
+    → (prepared leg frame).stage ≡ stages.Challenged
 prepared-stage leg frame is =
     let mid = acknowledged (learnt leg frame.head.source) frame.head.iseqno in
     let none_held = held_count mid.window == 0 in
@@ -148,17 +156,21 @@ judged-adds received.Gap leg frame message now is =
     either (Adds leg frame) (wants_vnak mid now) (asking mid frame now) (not_asking mid)
     (adds-none leg frame (asking mid frame now) refl) (adds-none leg frame (not_asking mid) refl)
 
-full-adds : (leg : LegState) (frame : FullFrame) (now : ℕ) → leg.stage ≡ stages.Challenged → Adds leg frame (full_step leg frame now)
+full-adds : (leg : LegState) (frame : FullFrame) (now : ℕ) → leg.stage ≡ stages.Challenged
+    → Adds leg frame (full_step leg frame now)
 full-adds leg frame now is =
     let mid = prepared leg frame in
     let noted = vnak_noted mid frame.head.iseqno now in
     of-full-step (Adds leg frame) leg frame now (omega arith) (omega arith)
     (of-vnak-step (Adds leg frame) _ mid frame.head.iseqno now
-    (adds-none leg frame (oldest_step noted now) refl) (adds-none leg frame (resend_step noted now) refl) (adds-none leg frame (nothing_sent mid) refl))
+    (adds-none leg frame (oldest_step noted now) refl) (adds-none leg frame (resend_step noted now) refl)
+    (adds-none leg frame (nothing_sent mid) refl))
     (either (Adds leg frame) (is_numbered (message_of frame.head)) _ (nothing_sent mid)
-    (judged-adds (judged_number mid.window.history frame.head.oseqno) leg frame (message_of frame.head) now is) (adds-none leg frame (nothing_sent mid) refl))
+    (judged-adds (judged_number mid.window.history frame.head.oseqno) leg frame (message_of frame.head) now is)
+    (adds-none leg frame (nothing_sent mid) refl))
 
-room-left : (entries octets : ℕ) (a b c d : Bool) → (a || b || (c && d && (nat_lt 32 (entries + 4) || nat_lt 4096 (octets + 1452)))) ≡ false
+room-left : (entries octets : ℕ) (a b c d : Bool)
+    → (a || b || (c && d && (nat_lt 32 (entries + 4) || nat_lt 4096 (octets + 1452)))) ≡ false
     → c ≡ true → d ≡ true → (entries + 4 ≤ 32) × (octets + 1452 ≤ 4096)
 room-left entries octets true b c d full is has = cc
 room-left entries octets false true c d full is has = cc
@@ -182,14 +194,17 @@ one-reply : (reply : Option Frame) → length (entries_for_reply reply) ≤ 1
 one-reply None = omega arith
 one-reply (Some frame) = omega arith
 
-three-more : (leg : LegState) (frame : FullFrame) (new : LegState) → TakesTurn leg frame new → length new.window.history ≤ length leg.window.history + 3
+three-more : (leg : LegState) (frame : FullFrame) (new : LegState) → TakesTurn leg frame new
+    → length new.window.history ≤ length leg.window.history + 3
 three-more leg frame new takes =
     let turn = takes.0 in
     let h = leg.window.history in
     let acks = cond turn.acknowledges (entries_for_acknowledgement h frame.head.iseqno) [] in
     let gets = cond turn.receives (entries_for_frame (judged_number h frame.head.oseqno) (numbered_frame frame)) [] in
-    let few_acks = either (λ (es : List Entry). length es ≤ 1) turn.acknowledges (entries_for_acknowledgement h frame.head.iseqno) [] (one-ack _) (omega arith) in
-    let few_gets = either (λ (es : List Entry). length es ≤ 1) turn.receives (entries_for_frame (judged_number h frame.head.oseqno) (numbered_frame frame)) [] (one-frame _ _) (omega arith) in
+    let few_acks = either (λ (es : List Entry). length es ≤ 1) turn.acknowledges (entries_for_acknowledgement h frame.head.iseqno)
+    [] (one-ack _) (omega arith) in
+    let few_gets = either (λ (es : List Entry). length es ≤ 1) turn.receives
+    (entries_for_frame (judged_number h frame.head.oseqno) (numbered_frame frame)) [] (one-frame _ _) (omega arith) in
     let whole : length new.window.history ≡ length (h ++ ((acks ++ gets) ++ entries_for_reply turn.reply)) = ap length takes.1 in
     omega (
       arith,
@@ -202,11 +217,13 @@ three-more leg frame new takes =
       one-reply turn.reply,
     )
 
-pub stays-little : (leg : LegState) (frame : FullFrame) (now : ℕ) → leg.stage ≡ stages.Challenged → is_some leg.rules.challenge_ms ≡ true
+pub stays-little : (leg : LegState) (frame : FullFrame) (now : ℕ) → leg.stage ≡ stages.Challenged → is_some leg.rules.challenge_ms
+    ≡ true
     → is_record_full leg ≡ false → length frame.payload ≤ 1388 → let new = (full_step leg frame now).leg in
     (entry_count new.window ≤ 32) × (data_octets new.window.history ≤ 4096)
 stays-little leg frame now is has room short =
-    let left = room-left (entry_count leg.window) (kept leg) (is_short_of_entries leg) (is_short_of_octets leg) (is_challenged leg.stage) (is_some leg.rules.challenge_ms)
+    let left = room-left (entry_count leg.window) (kept leg) (is_short_of_entries leg) (is_short_of_octets leg)
+    (is_challenged leg.stage) (is_some leg.rules.challenge_ms)
     room (ap is_challenged is) has in (
       let few = three-more leg frame (full_step leg frame now).leg (full-turn leg frame now) in omega (arith, few, left.0),
       let little = full-adds leg frame now is in omega (arith, little, left.1, short),
@@ -215,7 +232,8 @@ stays-little leg frame now is has room short =
 -- ---- a late answer
 
 ends : (grown : Bool) (leg : LegState) (now : ℕ) (full late : Bool) → late ≡ true
-    → cond (full || late) (quiet (failed leg (end_failure leg) now)) (due_frames grown leg now) ≡ quiet (failed leg (end_failure leg) now)
+    → cond (full || late) (quiet (failed leg (end_failure leg) now)) (due_frames grown leg now)
+    ≡ quiet (failed leg (end_failure leg) now)
 ends grown leg now true late is = refl
 ends grown leg now false late is = rw is refl
 

@@ -10,12 +10,14 @@ use Rattle.info_elements.specs.Element.{u32_in}
 use Rattle.info_elements.specs.Numbers.{FORMAT, MD5_RESULT}
 use Rattle.leg_machine.specs.Effects.{row, no_effect, reply_alone, hung_up, rejected, goes_on, unless_over, is_reply}
 use Rattle.call_signals.specs.Format.{same_format}
-use Rattle.leg_machine.specs.LegTable.{any_stage, challenged, waiting, talking, linked, effect_at, effect_of, is_answer, element_in, auth_rep_row, auth_rep_digits, is_wanted, voice_row, is_media}
+use Rattle.leg_machine.specs.LegTable.{any_stage, challenged, waiting, talking, linked, effect_at, effect_of, is_answer}
+use Rattle.leg_machine.specs.LegTable.{element_in, auth_rep_row, auth_rep_digits, is_wanted, voice_row, is_media}
 use Rattle.leg_machine.specs.Leg.{LegState}
 use Rattle.leg_machine.specs.Media.{IsMediaOf}
 use Rattle.call_signals.specs.Message.{message_of, is_numbered}
 use Rattle.call_signals.specs.Stage.{is_over}
-use Rattle.leg_machine.specs.Steps.{Step, full_step, vnak_step, nothing_sent, asking, not_asking, numbered_step, judged_step, taken, answered, no_room, prepared}
+use Rattle.leg_machine.specs.Steps.{Step, full_step, vnak_step, nothing_sent, asking, not_asking, numbered_step, judged_step}
+use Rattle.leg_machine.specs.Steps.{taken, answered, no_room, prepared}
 use Rattle.leg_machine.specs.Working.{wants_vnak}
 use Rattle.call_signals.specs.declared.cause.Cause.TheVariants.{CallRejected}
 use Rattle.call_signals.specs.declared.effects.Answering.TheVariants.{Acknowledged, Answered, Silent}
@@ -45,7 +47,8 @@ any-row frame stage messages.LagRq = reply-row frame stage _
 any-row frame stage messages.UnknownIax = reply-row frame stage _
 any-row frame stage _ = tt
 
-voice-row : (stage : Stage) (leg : LegState) (frame : FullFrame) (voice : Format) → IsMediaOf frame (voice_row stage leg frame voice).signal
+voice-row : (stage : Stage) (leg : LegState) (frame : FullFrame) (voice : Format)
+    → IsMediaOf frame (voice_row stage leg frame voice).signal
 voice-row stage leg frame voice =
     either_by (λ (e : Effect). IsMediaOf frame e.signal) (same_format voice leg.format && is_media (length frame.payload))
     (goes_on stage (signals.Media (record { start = 12; end = 12 + length frame.payload }))) (no_effect stage)
@@ -55,7 +58,8 @@ voice-row stage leg frame voice =
     second true b e = e
     second false b e = cc
 
-talking-row : (stage : Stage) (leg : LegState) (frame : FullFrame) (message : Message) → IsMediaOf frame (talking stage leg frame message).signal
+talking-row : (stage : Stage) (leg : LegState) (frame : FullFrame) (message : Message)
+    → IsMediaOf frame (talking stage leg frame message).signal
 talking-row stage leg frame messages.ClearsCall = tt
 talking-row stage leg frame (messages.Dtmf digit) = tt
 talking-row stage leg frame (messages.Voice voice) = voice-row stage leg frame voice
@@ -86,7 +90,8 @@ waiting-row leg frame messages.Accept =
 waiting-row leg frame messages.Reject = tt
 waiting-row leg frame message = any-row frame stages.Waiting message
 
-row-at : (stage : Stage) (leg : LegState) (frame : FullFrame) (message : Message) → IsMediaOf frame (effect_at stage leg frame message).signal
+row-at : (stage : Stage) (leg : LegState) (frame : FullFrame) (message : Message)
+    → IsMediaOf frame (effect_at stage leg frame message).signal
 row-at stages.Challenged leg frame message = challenged-row leg frame message
 row-at stages.Waiting leg frame message = waiting-row leg frame message
 row-at stages.Linked leg frame message = linked-row leg frame message
@@ -100,7 +105,8 @@ row-at stages.Ended leg frame message = any-row frame stages.Ended message
 abbrev HandsUpMedia : FullFrame → Step → Type 0
 HandsUpMedia frame s = IsMediaOf frame s.signal
 
-judged-media : (r : Received) (leg : LegState) (frame : FullFrame) (message : Message) (now : ℕ) → HandsUpMedia frame (judged_step r leg frame message now)
+judged-media : (r : Received) (leg : LegState) (frame : FullFrame) (message : Message) (now : ℕ)
+    → HandsUpMedia frame (judged_step r leg frame message now)
 judged-media received.Taken leg frame message now =
     let effect = effect_of leg frame message in
     either (HandsUpMedia frame) (is_reply effect.answer && is_full leg.window) (no_room leg)
@@ -109,16 +115,20 @@ judged-media received.Repeat leg frame message now = tt
 judged-media received.Gap leg frame message now =
     either (HandsUpMedia frame) (wants_vnak leg now) (asking leg frame now) (not_asking leg) tt tt
 
-numbered-media : (leg : LegState) (frame : FullFrame) (message : Message) (now : ℕ) → HandsUpMedia frame (numbered_step leg frame message now)
+numbered-media : (leg : LegState) (frame : FullFrame) (message : Message) (now : ℕ)
+    → HandsUpMedia frame (numbered_step leg frame message now)
 numbered-media leg frame message now =
     let judged = judged_number leg.window.history frame.head.oseqno in
-    either (HandsUpMedia frame) (is_numbered message) (judged_step judged leg frame message now) (nothing_sent leg) (judged-media judged leg frame message now) tt
+    either (HandsUpMedia frame) (is_numbered message) (judged_step judged leg frame message now) (nothing_sent leg)
+    (judged-media judged leg frame message now) tt
 
-vnak-media : (j : Judgement) (leg : LegState) (frame : FullFrame) (number now : ℕ) → HandsUpMedia frame (vnak_step j leg number now)
+vnak-media : (j : Judgement) (leg : LegState) (frame : FullFrame) (number now : ℕ)
+    → HandsUpMedia frame (vnak_step j leg number now)
 vnak-media j leg frame number now = of-vnak-step (HandsUpMedia frame) j leg number now tt tt tt
 
 pub frame-media : (leg : LegState) (frame : FullFrame) (now : ℕ) → IsMediaOf frame (full_step leg frame now).signal
 frame-media leg frame now =
     let mid = prepared leg frame in
     of-full-step (HandsUpMedia frame) leg frame now (unless-row frame leg.stage) tt
-    (vnak-media (judged_acknowledgement leg.window.history frame.head.iseqno) mid frame frame.head.iseqno now) (numbered-media mid frame (message_of frame.head) now)
+    (vnak-media (judged_acknowledgement leg.window.history frame.head.iseqno) mid frame frame.head.iseqno now)
+    (numbered-media mid frame (message_of frame.head) now)

@@ -12,7 +12,8 @@ use Rattle.leg_machine.specs.Effects.{is_reply}
 use Rattle.leg_machine.specs.LegTable.{effect_of}
 use Rattle.leg_machine.specs.Leg.{LegState}
 use Rattle.leg_machine.specs.Replies.{vnak}
-use Rattle.leg_machine.specs.Steps.{Step, full_step, nothing_sent, asking, not_asking, judged_step, taken, replied, answered, no_room, prepared}
+use Rattle.leg_machine.specs.Steps.{Step, full_step, nothing_sent, asking, not_asking, judged_step, taken, replied, answered}
+use Rattle.leg_machine.specs.Steps.{no_room, prepared}
 use Rattle.leg_machine.specs.Working.{is_past, wants_vnak}
 use Rattle.call_signals.specs.Message.{message_of, is_numbered}
 use Rattle.call_signals.specs.declared.effects.Answering.{Answering}
@@ -43,10 +44,12 @@ replied-anew leg now (Answered reply) none = none
 replied-anew leg now Acknowledged none = none
 replied-anew leg now Silent none = none
 
-same-count : (leg : LegState) (frame : FullFrame) → taken_count (prepared leg frame).window.history ≡ taken_count leg.window.history
+same-count : (leg : LegState) (frame : FullFrame) → taken_count (prepared leg frame).window.history ≡ taken_count
+    leg.window.history
 same-count leg frame =
     ap taken_count (prepared-history leg frame)
-    ∙ ap (λ (fs : List Frame). length fs) (taken-acks leg.window.history (count_of (judged_acknowledgement leg.window.history frame.head.iseqno)))
+    ∙ ap (λ (fs : List Frame). length fs)
+    (taken-acks leg.window.history (count_of (judged_acknowledgement leg.window.history frame.head.iseqno)))
 
 judged-anew : (r : Received) (leg : LegState) (frame : FullFrame) (message : Message) (now : ℕ)
     → AsksAnew leg (judged_step r (prepared leg frame) frame message now)
@@ -70,6 +73,8 @@ full-anew leg frame now =
     let counted = judged_acknowledgement leg.window.history frame.head.iseqno in
     let judged = judged_number mid.window.history frame.head.oseqno in
     of-full-step (AsksAnew leg) leg frame now (λ ne. absurd (ne refl)) (λ ne. absurd (ne refl))
-    (of-vnak-step (AsksAnew leg) counted mid frame.head.iseqno now (λ ne. absurd (ne (same-count leg frame))) (λ ne. absurd (ne (same-count leg frame)))
+    (of-vnak-step (AsksAnew leg) counted mid frame.head.iseqno now (λ ne. absurd (ne (same-count leg frame)))
+    (λ ne. absurd (ne (same-count leg frame)))
     (λ ne. absurd (ne (same-count leg frame))))
-    (either (AsksAnew leg) (is_numbered message) (judged_step judged mid frame message now) (nothing_sent mid) (judged-anew judged leg frame message now) (λ ne. absurd (ne (same-count leg frame))))
+    (either (AsksAnew leg) (is_numbered message) (judged_step judged mid frame message now) (nothing_sent mid)
+    (judged-anew judged leg frame message now) (λ ne. absurd (ne (same-count leg frame))))

@@ -1,6 +1,7 @@
 -- The number of frames that a tick skipped shows whether it had memory.
 use Rattle.std.specs.Prelude.{◌&&◌, nat_lt, map, All}
-use Rattle.std.proofs.Common.{◌≡◌, ℕ, zero, suc, ◌+◌, ◌<◌, ◌≤◌, Bool, true, false, cond, eqb, List, [], ◌∷◌, ◌++◌, length, ◌⊎◌, inl, inr, refl, sym, ap, subst, ◌∙◌, arith}
+use Rattle.std.proofs.Common.{◌≡◌, ℕ, zero, suc, ◌+◌, ◌<◌, ◌≤◌, Bool, true, false, cond, eqb, List, [], ◌∷◌, ◌++◌, length, ◌⊎◌}
+use Rattle.std.proofs.Common.{inl, inr, refl, sym, ap, subst, ◌∙◌, arith}
 use Rattle.iax_frames.specs.FullFrame.{spelling}
 use Rattle.std.proofs.lemmas.Bool.Decides.{nat_tests}
 use Rattle.seq_window.specs.Window.{Sending, held_count, mark_at, resent}
@@ -9,7 +10,8 @@ use Rattle.seq_window.specs.declared.judgements.Resent.TheVariants as resents
 use Rattle.leg_machine.specs.Leg.{Leg, LegState, capacity_of, entered, failed, local_room, must_end, end_failure}
 use Rattle.leg_machine.specs.Seen.{seen as seen_leg, IsSeenTick}
 use Rattle.call_signals.specs.Stage.{is_ended, is_talking}
-use Rattle.leg_machine.specs.Ticks.{Tick, quiet, sends_if, must_hang_up, must_ping, pinged, is_ping_time, last_step, due_frames, tick_step}
+use Rattle.leg_machine.specs.Ticks.{Tick, quiet, sends_if, must_hang_up, must_ping, pinged, is_ping_time, last_step, due_frames}
+use Rattle.leg_machine.specs.Ticks.{tick_step}
 use Rattle.leg_machine.specs.Tries.{Tried, tries, one_try, after_try}
 use Rattle.call_signals.specs.declared.reply.Reply.TheVariants as replies
 use Rattle.call_signals.specs.declared.stage.Stage.TheVariants as stages
@@ -39,7 +41,8 @@ agrees f (zero_with, inr more) false = ap f (test_of (f false).skipped more)
 last-true : (spent : Bool) (leg : LegState) (now : ℕ) → (last_step true spent leg now).skipped ≡ 0
 last-true true leg now = refl
 last-true false leg now =
-    either (λ (t : Tick). t.skipped ≡ 0) (must_ping leg now) (sends_if true leg (pinged leg now) now replies.Ping) (quiet leg) refl refl
+    either (λ (t : Tick). t.skipped ≡ 0) (must_ping leg now) (sends_if true leg (pinged leg now) now replies.Ping) (quiet leg)
+    refl refl
 
 -- the parts of a tick joined
 abbrev joined : (hung last : Tick) (leg : LegState) (now : ℕ) → Tick
@@ -55,7 +58,8 @@ last-tells : (hung : Tick) (spent : Bool) (mid leg : LegState) (now : ℕ) → h
 last-tells hung true mid leg now e = (omega (arith, e), inl refl)
 last-tells hung false mid leg now e =
     both (λ (a b : Tick). Tells (joined hung a leg now) (joined hung b leg now)) (must_ping mid now)
-    (sends_if true mid (pinged mid now) now replies.Ping) (quiet mid) (sends_if false mid (pinged mid now) now replies.Ping) (quiet mid)
+    (sends_if true mid (pinged mid now) now replies.Ping) (quiet mid) (sends_if false mid (pinged mid now) now replies.Ping)
+    (quiet mid)
     (omega (arith, e), inr (omega (arith, e))) (omega (arith, e), inl refl)
 
 abbrev finish : Bool → LegState → ℕ → Tick → Tick
@@ -71,16 +75,19 @@ due-tells leg now =
     let after = tries (held_count leg.window) leg now in
     both (λ (a b : Tick). Tells (finish true leg now a) (finish false leg now b)) (must_hang_up leg)
     (sends_if true leg closing now bye) (quiet leg) (sends_if false leg closing now bye) (quiet leg)
-    (omega (arith, last-true after_hung.spent after_hung.leg now), inr (omega arith)) (last-tells (quiet leg) after.spent after.leg leg now refl)
+    (omega (arith, last-true after_hung.spent after_hung.leg now), inr (omega arith))
+    (last-tells (quiet leg) after.spent after.leg leg now refl)
 
 tick-tells : (leg : LegState) (now : ℕ) → Tells (tick_step true leg now) (tick_step false leg now)
 tick-tells leg now =
     both Tells (is_ended leg.stage) (quiet leg) _ (quiet leg) _ (refl, inl refl)
-    (both Tells (must_end leg now) (quiet (failed leg (end_failure leg) now)) (due_frames true leg now) (quiet (failed leg (end_failure leg) now)) (due_frames false leg now)
+    (both Tells (must_end leg now) (quiet (failed leg (end_failure leg) now)) (due_frames true leg now)
+    (quiet (failed leg (end_failure leg) now)) (due_frames false leg now)
     (refl, inl refl) (due-tells leg now))
 
 -- the step of a tick is that with memory if nothing was skipped, and that without if something was
-tick-told : (leg : LegState) (now : ℕ) (grown : Bool) → tick_step (eqb (tick_step grown leg now).skipped 0) leg now ≡ tick_step grown leg now
+tick-told : (leg : LegState) (now : ℕ) (grown : Bool) → tick_step (eqb (tick_step grown leg now).skipped 0) leg now ≡ tick_step
+    grown leg now
 tick-told leg now grown = agrees (λ (g : Bool). tick_step g leg now) (tick-tells leg now) grown
 
 -- ---- if neither a HANGUP nor a PING is due
@@ -91,7 +98,8 @@ length-mark_at zero now (s ∷ sendings) = refl
 length-mark_at (suc place) now (s ∷ sendings) = ap (λ n. suc n) (length-mark_at place now sendings)
 
 -- tries make no PING due
-ping-try : (r : Resent) (leg : LegState) (now : ℕ) (rest : LegState → Tried) → ((l : LegState) → must_ping (rest l).leg now ≡ must_ping l now)
+ping-try : (r : Resent) (leg : LegState) (now : ℕ) (rest : LegState → Tried)
+    → ((l : LegState) → must_ping (rest l).leg now ≡ must_ping l now)
     → must_ping (one_try r leg now rest).leg now ≡ must_ping leg now
 ping-try resents.Nothing leg now rest same = refl
 ping-try resents.Spent leg now rest same = refl
@@ -103,18 +111,21 @@ ping-try (resents.Again place) leg now rest same =
 ping-tries : (turns : ℕ) (leg : LegState) (now : ℕ) → must_ping (tries turns leg now).leg now ≡ must_ping leg now
 ping-tries zero leg now = refl
 ping-tries (suc turns) leg now =
-    ping-try (resent leg.window now leg.rules.retry_ms leg.rules.max_retries) leg now (λ l. tries turns l now) (λ l. ping-tries turns l now)
+    ping-try (resent leg.window now leg.rules.retry_ms leg.rules.max_retries) leg now (λ l. tries turns l now)
+    (λ l. ping-tries turns l now)
 
 last-silent : (spent : Bool) (leg : LegState) (now : ℕ) → must_ping leg now ≡ false → (last_step false spent leg now).skipped ≡ 0
 last-silent true leg now silent = refl
 last-silent false leg now silent =
     ap (λ (b : Bool). (cond b (sends_if false leg (pinged leg now) now replies.Ping) (quiet leg)).skipped) silent
 
-due-silent : (leg : LegState) (now : ℕ) → must_hang_up leg ≡ false → must_ping leg now ≡ false → (due_frames false leg now).skipped ≡ 0
+due-silent : (leg : LegState) (now : ℕ) → must_hang_up leg ≡ false → must_ping leg now ≡ false
+    → (due_frames false leg now).skipped ≡ 0
 due-silent leg now stays silent =
     let tried = tries (held_count leg.window) leg now in
     let last = last-silent tried.spent tried.leg now (ping-tries (held_count leg.window) leg now ∙ silent) in
-    ap (λ (b : Bool). (finish false leg now (cond b (sends_if false leg (entered leg stages.Closing now) now (replies.Hangup leg.cause)) (quiet leg))).skipped) stays
+    ap (λ (b : Bool). (finish false leg now
+    (cond b (sends_if false leg (entered leg stages.Closing now) now (replies.Hangup leg.cause)) (quiet leg))).skipped) stays
     ∙ omega (arith, last)
 
 -- nothing is skipped if there was memory, or no need for it
@@ -133,9 +144,9 @@ Told old now missed new outs = record {
   replies : outs ≡ map spelling (tick_step (eqb missed 0) old.state now).replies;
   skipped : missed ≡ (tick_step (eqb missed 0) old.state now).skipped;
   spare : 2 ≤ old.spare → missed ≡ 0;
-  tied : SendsAtMostOne old.state new.state;
+  extends_history : SendsAtMostOne old.state new.state;
   sendings : All (IsSending new.state) outs;
-  seen : IsSeenTick (seen_leg old.state) (seen_leg new.state);
+  refines_abstract_leg : IsSeenTick (seen_leg old.state) (seen_leg new.state);
   capacity : capacity_of old ≤ capacity_of new;
 }
 
@@ -158,8 +169,9 @@ told old mid new outs now skipped grown numbered needless e more leg replies cou
       replies = replies_are ∙ ap (λ (u : Tick). map spelling u.replies) same;
       skipped = count_is ∙ ap (λ (u : Tick). u.skipped) same;
       spare = λ enough. count_is ∙ unskipped grown old.state now (needless enough);
-      tied = subst (SendsAtMostOne old.state) (sym leg_is) (tick-sends grown old.state now);
+      extends_history = subst (SendsAtMostOne old.state) (sym leg_is) (tick-sends grown old.state now);
       sendings = (written t.leg new.state t.replies outs (tick-sent grown old.state now numbered) leg_is replies_are).sendings;
-      seen = subst (λ (l : LegState). IsSeenTick (seen_leg old.state) (seen_leg l)) (sym leg_is) (tick-seen grown old.state now);
+      refines_abstract_leg = subst (λ (l : LegState). IsSeenTick (seen_leg old.state) (seen_leg l)) (sym leg_is)
+          (tick-seen grown old.state now);
       capacity = omega (arith, more, kept);
     }

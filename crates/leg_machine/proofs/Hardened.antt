@@ -32,7 +32,8 @@ none-held : (n : ℕ) → nat_lt 0 n ≡ false → n ≤ 1
 none-held n none = grind (arith, nat_tests)
 
 pub repetition-brings-one : (leg : LegState) (number now : ℕ) → leg.rules.is_hardened ≡ true
-    → is_repetition leg.vnak_answered number now (min leg.rules.retry_ms 100) ≡ true → length (answer_step leg number now).replies ≤ 1
+    → is_repetition leg.vnak_answered number now (min leg.rules.retry_ms 100) ≡ true → length (answer_step leg number now).replies
+    ≤ 1
 repetition-brings-one leg number now hardened repeats =
     let noted = vnak_noted leg number now in
     let w = leg.window in
@@ -49,11 +50,13 @@ all-brought leg number now soft = rw soft refl
 
 -- ---- INVAL
 
-pub inval-ignored : (leg : LegState) (frame : FullFrame) (now : ℕ) → leg.rules.is_hardened ≡ true → is_inval (message_of frame.head) ≡ true
+pub inval-ignored : (leg : LegState) (frame : FullFrame) (now : ℕ) → leg.rules.is_hardened ≡ true
+    → is_inval (message_of frame.head) ≡ true
     → names_leg leg frame ≡ false → full_step leg frame now ≡ nothing_sent leg
 inval-ignored leg frame now hardened inval others = rw (inval, hardened, others) refl
 
-pub inval-heeded : (leg : LegState) (frame : FullFrame) (now : ℕ) → leg.rules.is_hardened ≡ false → inval_step leg frame now ≡ invalidated leg now
+pub inval-heeded : (leg : LegState) (frame : FullFrame) (now : ℕ) → leg.rules.is_hardened ≡ false
+    → inval_step leg frame now ≡ invalidated leg now
 inval-heeded leg frame now soft = rw soft refl
 
 -- ---- digits

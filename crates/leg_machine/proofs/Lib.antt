@@ -18,3 +18,4 @@ pub mod Sendings
 pub mod Sides
 pub mod Tied
 pub mod TiedSends
+pub mod Sending

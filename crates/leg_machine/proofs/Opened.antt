@@ -28,11 +28,14 @@ pub record KeepsCall (old new : LegState) : Type 0 where
   pub width : new.window.width ≡ old.window.width
   pub limit : new.window.limit ≡ old.window.limit
 
-kept : (opening : Opening) (leg : LegState) (frame : FullFrame) (now : ℕ) → KeepsCall leg (taken_step (opening_effect opening) leg frame New now).leg
+kept : (opening : Opening) (leg : LegState) (frame : FullFrame) (now : ℕ)
+    → KeepsCall leg (taken_step (opening_effect opening) leg frame New now).leg
 kept Refused leg frame now = either (λ (s : Step). KeepsCall leg s.leg) _ _ _
-    (record { number = refl; remote = refl; rules = refl; width = refl; limit = refl }) (record { number = refl; remote = refl; rules = refl; width = refl; limit = refl })
+    (record { number = refl; remote = refl; rules = refl; width = refl; limit = refl })
+    (record { number = refl; remote = refl; rules = refl; width = refl; limit = refl })
 kept Challenges leg frame now = either (λ (s : Step). KeepsCall leg s.leg) _ _ _
-    (record { number = refl; remote = refl; rules = refl; width = refl; limit = refl }) (record { number = refl; remote = refl; rules = refl; width = refl; limit = refl })
+    (record { number = refl; remote = refl; rules = refl; width = refl; limit = refl })
+    (record { number = refl; remote = refl; rules = refl; width = refl; limit = refl })
 kept Offers leg frame now = record { number = refl; remote = refl; rules = refl; width = refl; limit = refl }
 
 -- the clauses of an opening: the leg, its frames and its answer
@@ -44,16 +47,19 @@ Opened rules number frame step new outs answer = record {
   number : new.number ≡ number;
   remote : new.remote ≡ Some frame.head.source;
   ruled : IsLegOf rules new;
-  tied : TakesFirstTurn frame new;
+  extends_history : TakesFirstTurn frame new;
   sendings : All (IsSending new) outs;
-  seen : IsSeenOpening (seen_leg new) answer.signal;
+  refines_abstract_leg : IsSeenOpening (seen_leg new) answer.signal;
   none_sent : Unit {0};
+  no_memory : Unit {0};
 }
 
 -- the NEW was taken with this effect on this leg
-pub opened : (rules : PeerRules) (number : ℕ) (frame : FullFrame) (now : ℕ) (challenge : List ℕ) (effect : Effect) (leg new : LegState)
+pub opened : (rules : PeerRules) (number : ℕ) (frame : FullFrame) (now : ℕ) (challenge : List ℕ) (effect : Effect)
+    (leg new : LegState)
     (before outs : List (List ℕ)) (heard : Heard) → 1 ≤ rules.window → new ≡ (taken_step effect leg frame New now).leg
-    → outs ≡ before ++ map spelling (taken_step effect leg frame New now).replies → heard ≡ heard_of (taken_step effect leg frame New now)
+    → outs ≡ before ++ map spelling (taken_step effect leg frame New now).replies
+    → heard ≡ heard_of (taken_step effect leg frame New now)
     → before ≡ [] → effect ≡ opening_effect (opening_of rules frame) → leg ≡ leg_for_new rules number frame now challenge
     → IsLegal new.window.width new.window.limit new.window.history
     → held_count new.window + acked_count new.window.history ≡ sent_count new.window.history
@@ -62,7 +68,8 @@ opened rules number frame now challenge effect leg new before outs heard some en
     let step = taken_step effect leg frame New now in
     let same : step ≡ open_in_step rules number frame now challenge = λ i. taken_step (by i) (on i) frame New now in
     let leg_is : new ≡ (open_in_step rules number frame now challenge).leg = ends ∙ ap (λ (t : Step). t.leg) same in
-    let sent = opened-written effect leg new frame now before outs ends spelt empty (ap (λ (l : LegState). l.window.history) on) in
+    let sent = opened-written effect leg new frame now before outs ends spelt empty (ap (λ (l : LegState). l.window.history)
+    on) in
     let call = kept (opening_of rules frame) (leg_for_new rules number frame now challenge) frame now in
     record {
       leg = leg_is;
@@ -76,10 +83,12 @@ opened rules number frame now challenge effect leg new before outs heard some en
         numbered = sent.numbered;
         held = held;
       };
-      replies = spelt ∙ ap (λ (b : List (List ℕ)). b ++ map spelling step.replies) empty ∙ ap (λ (t : Step). map spelling t.replies) same;
+      replies = spelt ∙ ap (λ (b : List (List ℕ)). b ++ map spelling step.replies) empty
+          ∙ ap (λ (t : Step). map spelling t.replies) same;
       heard = answer ∙ ap heard_of same;
-      tied = subst (TakesFirstTurn frame) (sym leg_is) (opening-turn rules number frame now challenge);
+      extends_history = subst (TakesFirstTurn frame) (sym leg_is) (opening-turn rules number frame now challenge);
       sendings = sent.sendings;
-      seen = opened-seen rules number frame now challenge effect leg new heard some ends answer by on;
+      refines_abstract_leg = opened-seen rules number frame now challenge effect leg new heard some ends answer by on;
       none_sent = tt;
+      no_memory = tt;
     }

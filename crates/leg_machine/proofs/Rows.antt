@@ -10,13 +10,15 @@ use Rattle.call_signals.specs.declared.format.Format.{Format}
 use Rattle.call_signals.specs.declared.stage.Stage.{Stage}
 use Rattle.call_signals.specs.declared.stage.Stage.TheVariants as stages
 
-pub linked-other : (leg : LegState) (frame : FullFrame) (m : Message) → ((i : Indication) → m ≡ messages.Indicates i → ⊥) → (m ≡ messages.Answer → ⊥)
+pub linked-other : (leg : LegState) (frame : FullFrame) (m : Message) → ((i : Indication) → m ≡ messages.Indicates i → ⊥)
+    → (m ≡ messages.Answer → ⊥)
     → linked leg frame m ≡ talking stages.Linked leg frame m
 linked-other leg frame (messages.Indicates i) no_indication no_answer = absurd (no_indication i refl)
 linked-other leg frame messages.Answer no_indication no_answer = absurd (no_answer refl)
 linked-other leg frame _ no_indication no_answer = refl
 
-pub talking-other : (stage : Stage) (leg : LegState) (frame : FullFrame) (m : Message) → (m ≡ messages.ClearsCall → ⊥) → ((d : ℕ) → m ≡ messages.Dtmf d → ⊥)
+pub talking-other : (stage : Stage) (leg : LegState) (frame : FullFrame) (m : Message) → (m ≡ messages.ClearsCall → ⊥)
+    → ((d : ℕ) → m ≡ messages.Dtmf d → ⊥)
     → ((v : Format) → m ≡ messages.Voice v → ⊥) → (m ≡ messages.Quelch → ⊥) → (m ≡ messages.Unquelch → ⊥)
     → talking stage leg frame m ≡ any_stage stage frame m
 talking-other stage leg frame messages.ClearsCall c d v q u = absurd (c refl)

@@ -10,12 +10,16 @@ use Rattle.info_elements.specs.Element.{u32_in}
 use Rattle.info_elements.specs.Numbers.{FORMAT, MD5_RESULT}
 use Rattle.leg_machine.specs.Effects.{row, no_effect, reply_alone, hung_up, rejected, goes_on, unless_over, marked, is_reply}
 use Rattle.call_signals.specs.Format.{same_format}
-use Rattle.leg_machine.specs.LegTable.{any_stage, challenged, waiting, talking, linked, effect_at, effect_of, is_answer, element_in, auth_rep_row, auth_rep_digits, is_wanted, voice_row, is_media}
+use Rattle.leg_machine.specs.LegTable.{any_stage, challenged, waiting, talking, linked, effect_at, effect_of, is_answer}
+use Rattle.leg_machine.specs.LegTable.{element_in, auth_rep_row, auth_rep_digits, is_wanted, voice_row, is_media}
 use Rattle.leg_machine.specs.Leg.{LegState, entered, staged}
 use Rattle.call_signals.specs.Message.{message_of, is_numbered}
-use Rattle.leg_machine.specs.Seen.{SeenLeg, SeenEffect, seen, moved, SeenFrame, Plain, ProvesItself, FailsToProve, AcceptsCall, RejectsCall, BreaksOff, Indicates, AnswersCall, Dials, Speaks, HangsUp, AcknowledgesAll, seen_effect, frame_effect, IsSeenFrame}
+use Rattle.leg_machine.specs.Seen.{SeenLeg, SeenEffect, seen, moved, SeenFrame, Plain, ProvesItself, FailsToProve, AcceptsCall}
+use Rattle.leg_machine.specs.Seen.{RejectsCall, BreaksOff, Indicates, AnswersCall, Dials, Speaks, HangsUp, AcknowledgesAll}
+use Rattle.leg_machine.specs.Seen.{seen_effect, frame_effect, IsSeenFrame}
 use Rattle.call_signals.specs.Stage.{is_over, is_closing}
-use Rattle.leg_machine.specs.Steps.{Step, heard_of, full_step, vnak_step, nothing_sent, asking, not_asking, numbered_step, judged_step, taken_step, taken, replied, answered, no_room, prepared}
+use Rattle.leg_machine.specs.Steps.{Step, heard_of, full_step, vnak_step, nothing_sent, asking, not_asking, numbered_step}
+use Rattle.leg_machine.specs.Steps.{judged_step, taken_step, taken, replied, answered, no_room, prepared}
 use Rattle.leg_machine.specs.Working.{learnt, acknowledged, wants_vnak, end_noted}
 use Rattle.call_signals.specs.declared.cause.Cause.TheVariants.{CallRejected, NormalClearing}
 use Rattle.call_signals.specs.declared.effects.Answering.{Answering}
@@ -56,7 +60,11 @@ plain-row stage effect e f = (Plain, e, f)
 
 reply-row : (stage : Stage) (reply : Reply) → SeenRow stage (reply_alone stage reply)
 reply-row stage reply =
-    either (SeenRow stage) (is_over stage) (no_effect stage) (row (Answered reply) stage None) (Plain, refl, refl) (Plain, refl, refl)
+    either (SeenRow stage) (is_over stage) (no_effect stage) (row (Answered reply) stage None) (Plain, refl, refl) (
+      Plain,
+      refl,
+      refl,
+    )
 
 any-row : (stage : Stage) (frame : FullFrame) (message : Message) → SeenRow stage (any_stage stage frame message)
 any-row stage frame messages.Hangup = hung-up-row stage
@@ -65,10 +73,15 @@ any-row stage frame messages.LagRq = reply-row stage _
 any-row stage frame messages.UnknownIax = reply-row stage _
 any-row stage frame _ = (Plain, refl, refl)
 
-challenged-row : (leg : LegState) (frame : FullFrame) (message : Message) → SeenRow stages.Challenged (challenged leg frame message)
+challenged-row : (leg : LegState) (frame : FullFrame) (message : Message)
+    → SeenRow stages.Challenged (challenged leg frame message)
 challenged-row leg frame messages.AuthRep =
     either (SeenRow stages.Challenged) (is_answer leg.challenge leg.rules.secret (element_in frame MD5_RESULT))
-    (row Silent stages.Offered (Some signals.Offered)) (rejected CallRejected) (ProvesItself, refl, refl) (FailsToProve, refl, refl)
+    (row Silent stages.Offered (Some signals.Offered)) (rejected CallRejected) (ProvesItself, refl, refl) (
+      FailsToProve,
+      refl,
+      refl,
+    )
 challenged-row leg frame message = any-row stages.Challenged frame message
 
 auth-row : (digits : Option (List ℕ)) → SeenRow stages.Waiting (auth_rep_row digits)
@@ -83,15 +96,18 @@ waiting-row leg frame messages.Accept =
 waiting-row leg frame messages.Reject = (RejectsCall, refl, refl)
 waiting-row leg frame message = any-row stages.Waiting frame message
 
-voice-row : (stage : Stage) (leg : LegState) (frame : FullFrame) (voice : Format) → ((span : MediaSpan) → SeenRow stage (goes_on stage (signals.Media span)))
+voice-row : (stage : Stage) (leg : LegState) (frame : FullFrame) (voice : Format)
+    → ((span : MediaSpan) → SeenRow stage (goes_on stage (signals.Media span)))
     → SeenRow stage (voice_row stage leg frame voice)
 voice-row stage leg frame voice speaks =
     let span : MediaSpan = record { start = 12; end = 12 + length frame.payload } in
-    either (SeenRow stage) (same_format voice leg.format && is_media (length frame.payload)) (goes_on stage (signals.Media span)) (no_effect stage)
+    either (SeenRow stage) (same_format voice leg.format && is_media (length frame.payload)) (goes_on stage (signals.Media span))
+    (no_effect stage)
     (speaks span) (Plain, refl, refl)
 
 talking-row : (stage : Stage) (leg : LegState) (frame : FullFrame) (message : Message) → SeenRow stage (hung_up NormalClearing)
-    → ((digit : ℕ) → SeenRow stage (goes_on stage (signals.Dtmf digit))) → ((span : MediaSpan) → SeenRow stage (goes_on stage (signals.Media span)))
+    → ((digit : ℕ) → SeenRow stage (goes_on stage (signals.Dtmf digit)))
+    → ((span : MediaSpan) → SeenRow stage (goes_on stage (signals.Media span)))
     → SeenRow stage (talking stage leg frame message)
 talking-row stage leg frame messages.ClearsCall clears dials speaks = clears
 talking-row stage leg frame (messages.Dtmf digit) clears dials speaks = dials digit
@@ -104,14 +120,17 @@ linked-row : (leg : LegState) (frame : FullFrame) (message : Message) → SeenRo
 linked-row leg frame (messages.Indicates indication) = (Indicates indication, refl, refl)
 linked-row leg frame messages.Answer = (AnswersCall, refl, refl)
 linked-row leg frame message =
-    talking-row stages.Linked leg frame message (BreaksOff, refl, refl) (λ digit. (Dials digit, refl, refl)) (λ span. (Speaks span, refl, refl))
+    talking-row stages.Linked leg frame message (BreaksOff, refl, refl) (λ digit. (Dials digit, refl, refl))
+    (λ span. (Speaks span, refl, refl))
 
-row-at : (stage : Stage) (leg : LegState) (frame : FullFrame) (message : Message) → SeenRow stage (effect_at stage leg frame message)
+row-at : (stage : Stage) (leg : LegState) (frame : FullFrame) (message : Message)
+    → SeenRow stage (effect_at stage leg frame message)
 row-at stages.Challenged leg frame message = challenged-row leg frame message
 row-at stages.Waiting leg frame message = waiting-row leg frame message
 row-at stages.Linked leg frame message = linked-row leg frame message
 row-at stages.Up leg frame message =
-    talking-row stages.Up leg frame message (BreaksOff, refl, refl) (λ digit. (Dials digit, refl, refl)) (λ span. (Speaks span, refl, refl))
+    talking-row stages.Up leg frame message (BreaksOff, refl, refl) (λ digit. (Dials digit, refl, refl))
+    (λ span. (Speaks span, refl, refl))
 row-at stages.Offered leg frame message = any-row stages.Offered frame message
 row-at stages.Closing leg frame message = any-row stages.Closing frame message
 row-at stages.Ended leg frame message = any-row stages.Ended frame message
@@ -133,7 +152,8 @@ seen-replied leg now Silent = refl
 pub seen-taken : (effect : Effect) (leg : LegState) (frame : FullFrame) (message : Message) (now : ℕ)
     → seen (replied (taken effect leg frame message now) now effect.answer) ≡ moved (seen leg) effect.stage
 seen-taken effect leg frame message now =
-    seen-replied (taken effect leg frame message now) now effect.answer ∙ seen-marked (entered (end_noted leg effect.stage frame message) effect.stage now) effect.mark
+    seen-replied (taken effect leg frame message now) now effect.answer ∙ seen-marked
+    (entered (end_noted leg effect.stage frame message) effect.stage now) effect.mark
 
 -- ---- frames that change nothing
 
@@ -171,7 +191,8 @@ judged-seen : (r : Received) (leg : LegState) (frame : FullFrame) (message : Mes
 judged-seen received.Taken leg frame message now = taken-seen leg frame message now
 judged-seen received.Repeat leg frame message now = plain leg
 judged-seen received.Gap leg frame message now =
-    either (λ (s : Step). IsSeenFrame (seen leg) (seen s.leg) s.signal) (wants_vnak leg now) (asking leg frame now) (not_asking leg) (plain leg) (plain leg)
+    either (λ (s : Step). IsSeenFrame (seen leg) (seen s.leg) s.signal) (wants_vnak leg now) (asking leg frame now)
+    (not_asking leg) (plain leg) (plain leg)
 
 numbered-seen : (leg : LegState) (frame : FullFrame) (message : Message) (now : ℕ)
     → let s = numbered_step leg frame message now in IsSeenFrame (seen leg) (seen s.leg) s.signal
@@ -180,7 +201,8 @@ numbered-seen leg frame message now =
     either (λ (s : Step). IsSeenFrame (seen leg) (seen s.leg) s.signal) (is_numbered message)
     (judged_step judged leg frame message now) (nothing_sent leg) (judged-seen judged leg frame message now) (plain leg)
 
-vnak-seen : (j : Judgement) (leg : LegState) (number now : ℕ) → let s = vnak_step j leg number now in IsSeenFrame (seen leg) (seen s.leg) s.signal
+vnak-seen : (j : Judgement) (leg : LegState) (number now : ℕ) → let s = vnak_step j leg number now in
+    IsSeenFrame (seen leg) (seen s.leg) s.signal
 vnak-seen j leg number now =
     of-vnak-step (λ (s : Step). IsSeenFrame (seen leg) (seen s.leg) s.signal) j leg number now (plain leg) (plain leg) (plain leg)
 
@@ -196,14 +218,17 @@ or-none true = refl
 or-none false = refl
 
 -- the effect on a leg that has just ended
-ended-seen : (old new : SeenLeg) (signal : Option Signal) → old.stage ≡ stages.Closing → IsSeenFrame (moved old stages.Ended) new signal → IsSeenFrame old new signal
+ended-seen : (old new : SeenLeg) (signal : Option Signal) → old.stage ≡ stages.Closing
+    → IsSeenFrame (moved old stages.Ended) new signal → IsSeenFrame old new signal
 ended-seen old new signal closing s =
     let effect = ended-frame s.0 in
-    let acked : frame_effect AcknowledgesAll old.stage ≡ seen_effect stages.Ended None = ap (frame_effect AcknowledgesAll) closing in
+    let acked : frame_effect AcknowledgesAll old.stage ≡ seen_effect stages.Ended None = ap (frame_effect AcknowledgesAll)
+    closing in
     let twice : moved (moved old stages.Ended) stages.Ended ≡ moved old stages.Ended =
     ap (λ (owes : Bool). record old { stage = stages.Ended; owes = owes }) (or-none (moved old stages.Ended).owes) in (
       AcknowledgesAll,
-      s.1 ∙ ap (λ (e : SeenEffect). moved (moved old stages.Ended) e.stage) effect ∙ twice ∙ ap (λ (e : SeenEffect). moved old e.stage) (sym acked),
+      s.1 ∙ ap (λ (e : SeenEffect). moved (moved old stages.Ended) e.stage) effect ∙ twice
+          ∙ ap (λ (e : SeenEffect). moved old e.stage) (sym acked),
       s.2 ∙ ap (λ (e : SeenEffect). e.signal) effect ∙ ap (λ (e : SeenEffect). e.signal) (sym acked),
     )
 
@@ -217,16 +242,19 @@ closing-if stages.Up b e = cc
 closing-if stages.Ended b e = cc
 
 -- a frame is handled on the leg as it was, or on one that has just ended
-prepared-seen : (leg : LegState) (frame : FullFrame) (new : SeenLeg) (signal : Option Signal) → IsSeenFrame (seen (prepared leg frame)) new signal → IsSeenFrame (seen leg) new signal
+prepared-seen : (leg : LegState) (frame : FullFrame) (new : SeenLeg) (signal : Option Signal)
+    → IsSeenFrame (seen (prepared leg frame)) new signal → IsSeenFrame (seen leg) new signal
 prepared-seen leg frame new signal =
     let mid = acknowledged (learnt leg frame.head.source) frame.head.iseqno in
-    either_by (λ (l : LegState). IsSeenFrame (seen l) new signal → IsSeenFrame (seen leg) new signal) (is_closing leg.stage && (held_count mid.window == 0))
+    either_by (λ (l : LegState). IsSeenFrame (seen l) new signal → IsSeenFrame (seen leg) new signal)
+    (is_closing leg.stage && (held_count mid.window == 0))
     (staged mid stages.Ended) mid
     (λ test s. ended-seen (seen leg) new signal (closing-if leg.stage (held_count mid.window == 0) test) s)
     (λ test s. s)
 
 -- a full frame
-pub frame-seen : (leg : LegState) (frame : FullFrame) (now : ℕ) → let s = full_step leg frame now in IsSeenFrame (seen leg) (seen s.leg) s.signal
+pub frame-seen : (leg : LegState) (frame : FullFrame) (now : ℕ) → let s = full_step leg frame now in
+    IsSeenFrame (seen leg) (seen s.leg) s.signal
 frame-seen leg frame now =
     let message = message_of frame.head in
     let mid = prepared leg frame in
@@ -234,12 +262,17 @@ frame-seen leg frame now =
     let vnak = vnak_step judged mid frame.head.iseqno now in
     let numbered = numbered_step mid frame message now in
     let ends = hung-up-row leg.stage in
-    of-full-step (λ (s : Step). IsSeenFrame (seen leg) (seen s.leg) s.signal) leg frame now (ends.0, ap (moved (seen leg)) ends.1, ends.2) (plain leg)
+    of-full-step (λ (s : Step). IsSeenFrame (seen leg) (seen s.leg) s.signal) leg frame now (
+      ends.0,
+      ap (moved (seen leg)) ends.1,
+      ends.2,
+    ) (plain leg)
     (prepared-seen leg frame (seen vnak.leg) vnak.signal (vnak-seen judged mid frame.head.iseqno now))
     (prepared-seen leg frame (seen numbered.leg) numbered.signal (numbered-seen mid frame message now))
 
 -- the answer of a call
-pub heard-seen : (old new : LegState) (frame : FullFrame) (now : ℕ) (heard : Heard) → new ≡ (full_step old frame now).leg → heard ≡ heard_of (full_step old frame now)
+pub heard-seen : (old new : LegState) (frame : FullFrame) (now : ℕ) (heard : Heard) → new ≡ (full_step old frame now).leg
+    → heard ≡ heard_of (full_step old frame now)
     → IsSeenFrame (seen old) (seen new) heard.signal
 heard-seen old new frame now heard leg answer =
     let s = frame-seen old frame now in

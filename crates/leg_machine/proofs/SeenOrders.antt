@@ -4,7 +4,8 @@ use Rattle.std.proofs.Common.{◌≡◌, ℕ, Bool, true, false, cond, List, Opt
 use Rattle.seq_window.specs.Window.{held_count}
 use Rattle.leg_machine.specs.Leg.{LegState, is_record_full}
 use Rattle.leg_machine.specs.Media.{media_sent, after_media}
-use Rattle.leg_machine.specs.OrderTable.{when, refuses_digits, row_refused, row_carried, order_refused, order_carried, media_refused, media_refused_as, sending_refused, IsRefusal}
+use Rattle.leg_machine.specs.OrderTable.{when, refuses_digits, row_refused, row_carried, order_refused, order_carried}
+use Rattle.leg_machine.specs.OrderTable.{media_refused, media_refused_as, sending_refused, IsRefusal}
 use Rattle.leg_machine.specs.Seen.{seen, moved, ordered, kind_of, stage_after, stage_ordered, IsSeenOrder}
 use Rattle.call_signals.specs.Stage.{is_offered, is_linked, is_talking, is_over}
 use Rattle.call_signals.specs.declared.cause.Cause.{Cause}
@@ -70,7 +71,8 @@ row-seen leg kind true row now leads moves unrefused = (row.stage, leads, moves)
 row-seen leg kind false row now leads moves unrefused = cc
 
 -- a digit is sent if the leg talks and doesn't refuse it
-digit-seen : (leg : LegState) (digit : ℕ) (talks refuses : Bool) (row : Ordered) (now : ℕ) → LeadsTo (kinds.Dtmf digit) leg.stage talks row.stage
+digit-seen : (leg : LegState) (digit : ℕ) (talks refuses : Bool) (row : Ordered) (now : ℕ)
+    → LeadsTo (kinds.Dtmf digit) leg.stage talks row.stage
     → row_refused leg (when (talks && not refuses) row) ≡ None
     → moved (seen leg) row.stage ≡ ordered (kinds.Dtmf digit) (seen leg) row.stage
     → IsSeenOrder (kinds.Dtmf digit) (seen leg) (seen (row_carried leg (when (talks && not refuses) row) now).leg)
@@ -84,7 +86,8 @@ seen-media media.Voice leg octets now = refl
 seen-media (media.Mini timestamp) leg octets now = refl
 
 -- a talking leg gets media, and callers see no change
-pub talking-seen : (old new : LegState) → is_talking old.stage ≡ true → seen new ≡ seen old → IsSeenOrder kinds.Media (seen old) (seen new)
+pub talking-seen : (old new : LegState) → is_talking old.stage ≡ true → seen new ≡ seen old
+    → IsSeenOrder kinds.Media (seen old) (seen new)
 talking-seen old new talks same = (
   old.stage,
   media-stage old.stage ∙ ap (λ (b : Bool). cond b (Some old.stage) None) talks,
@@ -102,13 +105,19 @@ media-seen leg octets now =
 
 pub order-seen : (leg : LegState) (order : Order) (now : ℕ) → order_refused leg order now ≡ None
     → IsSeenOrder (kind_of order) (seen leg) (seen (order_carried leg order now).leg)
-order-seen leg (orders.Accept format) now unrefused = row-seen leg (kinds.Accept format) (is_offered leg.stage) _ now (accept format leg.stage) refl unrefused
-order-seen leg (orders.Reject cause) now unrefused = row-seen leg (kinds.Reject cause) (is_offered leg.stage) _ now (reject cause leg.stage) refl unrefused
-order-seen leg (orders.Indicate i) now unrefused = row-seen leg (kinds.Indicate i) (is_linked leg.stage) _ now (indicate i leg.stage) refl unrefused
-order-seen leg orders.Answer now unrefused = row-seen leg kinds.Answer (is_linked leg.stage) _ now (answer leg.stage) refl unrefused
-order-seen leg (orders.Dtmf digit) now unrefused = digit-seen leg digit (is_talking leg.stage) (refuses_digits leg) _ now (dtmf digit leg.stage) unrefused refl
+order-seen leg (orders.Accept format) now unrefused = row-seen leg (kinds.Accept format) (is_offered leg.stage) _ now
+    (accept format leg.stage) refl unrefused
+order-seen leg (orders.Reject cause) now unrefused = row-seen leg (kinds.Reject cause) (is_offered leg.stage) _ now
+    (reject cause leg.stage) refl unrefused
+order-seen leg (orders.Indicate i) now unrefused = row-seen leg (kinds.Indicate i) (is_linked leg.stage) _ now
+    (indicate i leg.stage) refl unrefused
+order-seen leg orders.Answer now unrefused = row-seen leg kinds.Answer (is_linked leg.stage) _ now (answer leg.stage) refl
+    unrefused
+order-seen leg (orders.Dtmf digit) now unrefused = digit-seen leg digit (is_talking leg.stage) (refuses_digits leg) _ now
+    (dtmf digit leg.stage) unrefused refl
 order-seen leg (orders.Media octets) now unrefused = media-seen leg octets.now now unrefused
-order-seen leg (orders.Hangup cause) now unrefused = row-seen leg (kinds.Hangup cause) (not (is_over leg.stage)) _ now (hangup cause leg.stage) refl unrefused
+order-seen leg (orders.Hangup cause) now unrefused = row-seen leg (kinds.Hangup cause) (not (is_over leg.stage)) _ now
+    (hangup cause leg.stage) refl unrefused
 order-seen leg (orders.Doom cause) now unrefused = (leg.stage, refl, refl)
 order-seen leg orders.Paid now unrefused = (leg.stage, refl, refl)
 
@@ -120,9 +129,11 @@ WrongTogether refusal there = (refusal ≡ Some errors.WrongStage) ↔ (there �
 
 sending-right : (leg : LegState) (most : ℕ) → sending_refused leg most ≡ Some errors.WrongStage → ⊥
 sending-right leg most =
-    either (λ (r : Option OrderError). r ≡ Some errors.WrongStage → ⊥) (nat_le most (held_count leg.window)) (Some errors.WindowFull)
+    either (λ (r : Option OrderError). r ≡ Some errors.WrongStage → ⊥) (nat_le most (held_count leg.window))
+    (Some errors.WindowFull)
     (cond (is_record_full leg) (Some errors.RecordFull) None) (λ e. cc)
-    (either (λ (r : Option OrderError). r ≡ Some errors.WrongStage → ⊥) (is_record_full leg) (Some errors.RecordFull) None (λ e. cc) (λ e. cc))
+    (either (λ (r : Option OrderError). r ≡ Some errors.WrongStage → ⊥) (is_record_full leg) (Some errors.RecordFull) None
+    (λ e. cc) (λ e. cc))
 
 row-wrong : (leg : LegState) (kind : OrderKind) (right : Bool) (row : Ordered) → LeadsTo kind leg.stage right row.stage
     → WrongTogether (row_refused leg (when right row)) (stage_after kind leg.stage)
@@ -143,35 +154,43 @@ media-wrong leg now =
     (λ e. absurd (media-right (media_sent leg now) leg e), λ e. cc))
     (λ talks. (λ e. media-stage leg.stage ∙ ap (λ (b : Bool). cond b (Some leg.stage) None) talks, λ e. refl))
 
-digit-wrong : (leg : LegState) (digit : ℕ) (talks refuses : Bool) (row : Ordered) → LeadsTo (kinds.Dtmf digit) leg.stage talks row.stage
-    → WrongTogether (row_refused leg (when (talks && not refuses) row)) (cond refuses None (stage_after (kinds.Dtmf digit) leg.stage))
+digit-wrong : (leg : LegState) (digit : ℕ) (talks refuses : Bool) (row : Ordered) → LeadsTo (kinds.Dtmf digit) leg.stage talks
+    row.stage
+    → WrongTogether (row_refused leg (when (talks && not refuses) row))
+    (cond refuses None (stage_after (kinds.Dtmf digit) leg.stage))
 digit-wrong leg digit true false row leads = row-wrong leg (kinds.Dtmf digit) true row leads
 digit-wrong leg digit true true row leads = (λ e. refl, λ e. refl)
 digit-wrong leg digit false false row leads = row-wrong leg (kinds.Dtmf digit) false row leads
 digit-wrong leg digit false true row leads = (λ e. refl, λ e. refl)
 
-pub order-wrong : (leg : LegState) (order : Order) (now : ℕ) → WrongTogether (order_refused leg order now) (stage_ordered leg (kind_of order))
-order-wrong leg (orders.Accept format) now = row-wrong leg (kinds.Accept format) (is_offered leg.stage) _ (accept format leg.stage)
+pub order-wrong : (leg : LegState) (order : Order) (now : ℕ) → WrongTogether (order_refused leg order now)
+    (stage_ordered leg (kind_of order))
+order-wrong leg (orders.Accept format) now = row-wrong leg (kinds.Accept format) (is_offered leg.stage) _
+    (accept format leg.stage)
 order-wrong leg (orders.Reject cause) now = row-wrong leg (kinds.Reject cause) (is_offered leg.stage) _ (reject cause leg.stage)
 order-wrong leg (orders.Indicate i) now = row-wrong leg (kinds.Indicate i) (is_linked leg.stage) _ (indicate i leg.stage)
 order-wrong leg orders.Answer now = row-wrong leg kinds.Answer (is_linked leg.stage) _ (answer leg.stage)
-order-wrong leg (orders.Dtmf digit) now = digit-wrong leg digit (is_talking leg.stage) (refuses_digits leg) _ (dtmf digit leg.stage)
+order-wrong leg (orders.Dtmf digit) now = digit-wrong leg digit (is_talking leg.stage) (refuses_digits leg) _
+    (dtmf digit leg.stage)
 order-wrong leg (orders.Media octets) now = media-wrong leg now
-order-wrong leg (orders.Hangup cause) now = row-wrong leg (kinds.Hangup cause) (not (is_over leg.stage)) _ (hangup cause leg.stage)
+order-wrong leg (orders.Hangup cause) now = row-wrong leg (kinds.Hangup cause) (not (is_over leg.stage)) _
+    (hangup cause leg.stage)
 order-wrong leg (orders.Doom cause) now = (λ e. cc, λ e. cc)
 order-wrong leg orders.Paid now = (λ e. cc, λ e. cc)
 
 -- ---- the answers of calls
 
 -- the returned refusal is the one that is due
-pub answered-wrong : {A : Type 0} (result : Result A OrderError) (refusal : Option OrderError) (there : Option Stage) → WrongTogether refusal there
+pub answered-wrong : {A : Type 0} (result : Result A OrderError) (refusal : Option OrderError) (there : Option Stage)
+    → WrongTogether refusal there
     → OnOk result (refusal ≡ None) → IfErr result (IsRefusal refusal) → (result ≡ Err errors.WrongStage) ↔ (there ≡ None)
 answered-wrong (Ok x) refusal there wrong unrefused refused = (λ e. cc, λ e. let w = wrong.1 e in cc)
 answered-wrong (Err e) (Some due) there wrong unrefused refused = (λ h. wrong.0 cc, λ h. let w = wrong.1 h in cc)
 answered-wrong (Err e) None there wrong unrefused refused = (λ h. cc, λ h. let w = wrong.1 h in cc)
 
 -- if none is due, the order was carried out
-pub answered-seen : {A : Type 0} (result : Result A OrderError) (kind : OrderKind) (old step new : LegState) (refusal : Option OrderError)
+pub answered-seen : {A : Type 0} (result : Result A OrderError) (kind : OrderKind) (old step new : LegState)
+    (refusal : Option OrderError)
     → (refusal ≡ None → IsSeenOrder kind (seen old) (seen step)) → OnOk result (new ≡ step) → OnOk result (refusal ≡ None)
     → OnOk result (IsSeenOrder kind (seen old) (seen new))
 answered-seen (Ok x) kind old step new refusal law leg unrefused =

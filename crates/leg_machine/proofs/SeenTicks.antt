@@ -1,6 +1,7 @@
 -- The part of a leg that callers at once see, when it opens, and when a tick reaches it.
 use Rattle.std.specs.Prelude.{◌&&◌, not, nat_le}
-use Rattle.std.proofs.Common.{◌≡◌, ℕ, zero, suc, ◌≤◌, Bool, true, false, cond, List, ◌⊎◌, inl, inr, refl, sym, ap, subst, ◌∙◌, arith}
+use Rattle.std.proofs.Common.{◌≡◌, ℕ, zero, suc, ◌≤◌, Bool, true, false, cond, List, ◌⊎◌, inl, inr, refl, sym, ap, subst, ◌∙◌}
+use Rattle.std.proofs.Common.{arith}
 use Rattle.std.proofs.lemmas.Bool.Decides.{nat_tests}
 use Rattle.iax_frames.specs.FullFrame.{FullFrame}
 use Rattle.seq_window.specs.Window.{held_count, is_full, resent}
@@ -9,7 +10,8 @@ use Rattle.seq_window.specs.declared.judgements.Resent.TheVariants as resents
 use Rattle.leg_machine.specs.Effects.{is_reply}
 use Rattle.leg_machine.specs.Leg.{LegState, entered, failed, must_end, end_failure}
 use Rattle.leg_machine.specs.Openings.{opening_of, opening_effect, leg_for_new, open_in_step}
-use Rattle.leg_machine.specs.Seen.{SeenLeg, seen, moved, fresh_leg, opening_effect as seen_opening, IsSeenOpening, Ends, ClosesDoomed, IsSeenTick}
+use Rattle.leg_machine.specs.Seen.{SeenLeg, seen, moved, fresh_leg, opening_effect as seen_opening, IsSeenOpening, Ends}
+use Rattle.leg_machine.specs.Seen.{ClosesDoomed, IsSeenTick}
 use Rattle.call_signals.specs.Stage.{is_over, is_ended}
 use Rattle.leg_machine.specs.Steps.{Step, heard_of, taken_step, taken, answered, no_room}
 use Rattle.leg_machine.specs.Ticks.{Tick, quiet, sends_if, must_hang_up, must_ping, pinged, last_step, due_frames, tick_step}
@@ -33,7 +35,8 @@ some-room width true some = grind (arith, nat_tests)
 some-room width false some = refl
 
 -- a leg that enters its first stage
-fresh : (opening : Opening) → moved (fresh_leg stages.Offered) (opening_effect opening).stage ≡ fresh_leg (seen_opening opening).stage
+fresh : (opening : Opening) → moved (fresh_leg stages.Offered) (opening_effect opening).stage ≡ fresh_leg
+    (seen_opening opening).stage
 fresh openings.Refused = refl
 fresh openings.Challenges = refl
 fresh openings.Offers = refl
@@ -51,16 +54,22 @@ opening-seen rules number frame now challenge some =
     let leg = leg_for_new rules number frame now challenge in
     let step : Step = answered effect.answer (taken effect leg frame New now) frame now effect.signal in
     let has_room = some-room rules.window (is_reply effect.answer) some in
-    let goal : IsSeenOpening (seen step.leg) step.signal = (opening, seen-taken effect leg frame New now ∙ fresh opening, same-signal opening) in
+    let goal : IsSeenOpening (seen step.leg) step.signal = (
+      opening,
+      seen-taken effect leg frame New now ∙ fresh opening,
+      same-signal opening,
+    ) in
     subst (λ (b : Bool). let s : Step = cond b (no_room leg) step in IsSeenOpening (seen s.leg) s.signal) (sym has_room) goal
 
 -- the answer of a call that took the NEW with this effect on this leg
-pub opened-seen : (rules : PeerRules) (number : ℕ) (frame : FullFrame) (now : ℕ) (challenge : List ℕ) (effect : Effect) (leg new : LegState) (heard : Heard) → 1 ≤ rules.window
+pub opened-seen : (rules : PeerRules) (number : ℕ) (frame : FullFrame) (now : ℕ) (challenge : List ℕ) (effect : Effect)
+    (leg new : LegState) (heard : Heard) → 1 ≤ rules.window
     → new ≡ (taken_step effect leg frame New now).leg → heard ≡ heard_of (taken_step effect leg frame New now)
     → effect ≡ opening_effect (opening_of rules frame) → leg ≡ leg_for_new rules number frame now challenge
     → IsSeenOpening (seen new) heard.signal
 opened-seen rules number frame now challenge effect leg new heard some ends answer by on =
-    let same : taken_step effect leg frame New now ≡ open_in_step rules number frame now challenge = λ i. taken_step (by i) (on i) frame New now in
+    let same : taken_step effect leg frame New now ≡ open_in_step rules number frame now challenge =
+    λ i. taken_step (by i) (on i) frame New now in
     let s = opening-seen rules number frame now challenge some in (
       s.0,
       ap seen ends ∙ ap (λ (t : Step). seen t.leg) same ∙ s.1,
@@ -78,9 +87,11 @@ seen-try (resents.Again place) leg now rest kept = kept (after_try leg place now
 seen-tries : (turns : ℕ) (leg : LegState) (now : ℕ) → seen (tries turns leg now).leg ≡ seen leg
 seen-tries zero leg now = refl
 seen-tries (suc turns) leg now =
-    seen-try (resent leg.window now leg.rules.retry_ms leg.rules.max_retries) leg now (λ l. tries turns l now) (λ l. seen-tries turns l now)
+    seen-try (resent leg.window now leg.rules.retry_ms leg.rules.max_retries) leg now (λ l. tries turns l now)
+    (λ l. seen-tries turns l now)
 
-seen-sends : (grown : Bool) (leg changed : LegState) (now : ℕ) → seen changed ≡ seen leg → seen (sends_if grown leg changed now replies.Ping).leg ≡ seen leg
+seen-sends : (grown : Bool) (leg changed : LegState) (now : ℕ) → seen changed ≡ seen leg
+    → seen (sends_if grown leg changed now replies.Ping).leg ≡ seen leg
 seen-sends true leg changed now e = e
 seen-sends false leg changed now e = refl
 
@@ -91,7 +102,8 @@ StaysOrEnds old new = (new ≡ old) ⊎ (new ≡ moved old stages.Ended)
 last-seen : (grown spent : Bool) (leg : LegState) (now : ℕ) → StaysOrEnds (seen leg) (seen (last_step grown spent leg now).leg)
 last-seen grown true leg now = inr refl
 last-seen grown false leg now =
-    either (λ (t : Tick). StaysOrEnds (seen leg) (seen t.leg)) (must_ping leg now) (sends_if grown leg (pinged leg now) now replies.Ping) (quiet leg)
+    either (λ (t : Tick). StaysOrEnds (seen leg) (seen t.leg)) (must_ping leg now) (sends_if grown leg (pinged leg now) now
+    replies.Ping) (quiet leg)
     (inl (seen-sends grown leg (pinged leg now) now refl)) (inl refl)
 
 -- the frames after the doomed leg's HANGUP, if there was one
@@ -110,11 +122,16 @@ and-left : (a b : Bool) → (a && b) ≡ true → a ≡ true
 and-left true b e = refl
 and-left false b e = e
 
-closes : (old new : SeenLeg) → (old.doomed && not (is_over old.stage)) ≡ true → StaysOrEnds (moved old stages.Closing) new → IsSeenTick old new
+closes : (old new : SeenLeg) → (old.doomed && not (is_over old.stage)) ≡ true → StaysOrEnds (moved old stages.Closing) new
+    → IsSeenTick old new
 closes old new doomed (inl same) =
     inr (ClosesDoomed, same ∙ ap (λ (b : Bool). cond b (moved old stages.Closing) old) (sym doomed))
 closes old new doomed (inr ended) =
-    inr (Ends, ended ∙ ap (λ (owes : Bool). record old { stage = stages.Ended; owes = owes }) (or-none (moved old stages.Closing).owes))
+    inr (
+      Ends,
+      ended ∙ ap (λ (owes : Bool). record old { stage = stages.Ended; owes = owes })
+          (or-none (moved old stages.Closing).owes),
+    )
 
 -- the rest of a tick after the HANGUP, if there was one
 abbrev finished : Bool → LegState → ℕ → Tick → LegState
@@ -123,12 +140,15 @@ finished grown leg now hung =
     (last_step grown tried.spent tried.leg now).leg
 
 hung-seen : (grown : Bool) (leg : LegState) (now : ℕ) → must_hang_up leg ≡ true
-    → IsSeenTick (seen leg) (seen (finished grown leg now (sends_if grown leg (entered leg stages.Closing now) now (replies.Hangup leg.cause))))
+    → IsSeenTick (seen leg) (seen (finished grown leg now (sends_if grown leg (entered leg stages.Closing now) now
+    (replies.Hangup leg.cause))))
 hung-seen true leg now must =
     let hung = sends_if true leg (entered leg stages.Closing now) now (replies.Hangup leg.cause) in
-    closes (seen leg) (seen (finished true leg now hung)) (and-left (leg.doomed && not (is_over leg.stage)) (not (is_full leg.window)) must)
+    closes (seen leg) (seen (finished true leg now hung)) (and-left (leg.doomed && not (is_over leg.stage))
+    (not (is_full leg.window)) must)
     (tried-seen (held_count leg.window) true hung.leg now)
-hung-seen false leg now must = lives-on (seen leg) (seen (finished false leg now (quiet leg))) (tried-seen (held_count leg.window) false leg now)
+hung-seen false leg now must = lives-on (seen leg) (seen (finished false leg now (quiet leg)))
+    (tried-seen (held_count leg.window) false leg now)
 
 due-seen : (grown : Bool) (leg : LegState) (now : ℕ) → IsSeenTick (seen leg) (seen (due_frames grown leg now).leg)
 due-seen grown leg now =
@@ -140,5 +160,6 @@ due-seen grown leg now =
 pub tick-seen : (grown : Bool) (leg : LegState) (now : ℕ) → IsSeenTick (seen leg) (seen (tick_step grown leg now).leg)
 tick-seen grown leg now =
     either (λ (t : Tick). IsSeenTick (seen leg) (seen t.leg)) (is_ended leg.stage) (quiet leg) _ (inl refl)
-    (either (λ (t : Tick). IsSeenTick (seen leg) (seen t.leg)) (must_end leg now) (quiet (failed leg (end_failure leg) now)) (due_frames grown leg now)
+    (either (λ (t : Tick). IsSeenTick (seen leg) (seen t.leg)) (must_end leg now) (quiet (failed leg (end_failure leg) now))
+    (due_frames grown leg now)
     (inr (Ends, refl)) (due-seen grown leg now))

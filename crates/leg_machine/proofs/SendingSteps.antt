@@ -1,7 +1,8 @@
 -- The frames of each step.
 use Rattle.std.specs.Prelude.{◌&&◌, nat_eq, map, option_map, All}
 use Rattle.std.specs.Option.{option_to_list}
-use Rattle.std.proofs.Common.{◌≡◌, ℕ, zero, suc, Bool, true, false, List, [], ◌∷◌, ◌++◌, Option, None, Some, inl, refl, sym, ap, subst, ◌∙◌}
+use Rattle.std.proofs.Common.{◌≡◌, ℕ, zero, suc, Bool, true, false, List, [], ◌∷◌, ◌++◌, Option, None, Some, inl, refl, sym, ap}
+use Rattle.std.proofs.Common.{subst, ◌∙◌}
 use Rattle.std.proofs.lemmas.List.Elements.{All-nil, All-cons, All-append, All-map, All-same, All-weaker}
 use Rattle.iax_frames.specs.FullFrame.{FullFrame, spelling}
 use Rattle.iax_frames.specs.declared.stored_frame.Frame.{Frame}
@@ -12,7 +13,8 @@ use Rattle.seq_window.specs.declared.judgements.Received.{Received}
 use Rattle.seq_window.specs.declared.judgements.Received.TheVariants as received
 use Rattle.seq_window.specs.declared.judgements.Resent.{Resent}
 use Rattle.seq_window.specs.declared.judgements.Resent.TheVariants as resents
-use Rattle.seq_window.specs.Window.{held_count, held_frames, held_at, is_full, judged_number, judged_acknowledgement, count_of, entries_for_count, entries_for_number, resent}
+use Rattle.seq_window.specs.Window.{held_count, held_frames, held_at, is_full, judged_number, judged_acknowledgement, count_of}
+use Rattle.seq_window.specs.Window.{entries_for_count, entries_for_number, resent}
 use Rattle.leg_machine.specs.Effects.{is_reply}
 use Rattle.leg_machine.specs.LegTable.{effect_of}
 use Rattle.leg_machine.specs.Leg.{LegState, entered, failed, obeyed, must_end, end_failure}
@@ -22,7 +24,8 @@ use Rattle.leg_machine.specs.Openings.{leg_for_call, open_out_step}
 use Rattle.leg_machine.specs.OrderTable.{row_carried}
 use Rattle.leg_machine.specs.Replies.{reply_frame, voice_frame, new_frame, outgoing, next_byte, ack, vnak, sent_again}
 use Rattle.call_signals.specs.Stage.{is_ended}
-use Rattle.leg_machine.specs.Steps.{Step, full_step, invalidated, oldest_step, resend_step, nothing_sent, asking, not_asking, judged_step, taken_step, taken, replied, answers, answered, no_room, prepared}
+use Rattle.leg_machine.specs.Steps.{Step, full_step, invalidated, oldest_step, resend_step, nothing_sent, asking, not_asking}
+use Rattle.leg_machine.specs.Steps.{judged_step, taken_step, taken, replied, answers, answered, no_room, prepared}
 use Rattle.leg_machine.specs.Ticks.{Tick, quiet, sends_if, must_hang_up, must_ping, pinged, last_step, due_frames, tick_step}
 use Rattle.leg_machine.specs.Tie.{IsNumberedFrame, SendsNumbered, IsSendingOf, IsSending, IsSendingOrMini, HasSent, HasSentOrMini}
 use Rattle.leg_machine.specs.Tries.{Tried, tries, one_try, after_try, frames_again}
@@ -40,7 +43,9 @@ use Rattle.leg_machine.specs.declared.orders.Ordered.{Ordered}
 use Rattle.call_signals.specs.declared.reply.Reply.TheVariants as replies
 use Rattle.call_signals.specs.declared.rules.PeerRules.{PeerRules}
 use Rattle.call_signals.specs.declared.stage.Stage.TheVariants as stages
-use Rattle.leg_machine.proofs.Sendings.{reply-numbered, voice-numbered, new-sending, ack-sending, vnak-sending, held-all, all-at, IsHeldIn, Extends, extends-itself, extends-push, again-sending, AllSent, none-sent, one-sent}
+use Rattle.leg_machine.proofs.Sendings.{reply-numbered, voice-numbered, new-sending, ack-sending, vnak-sending, held-all, all-at}
+use Rattle.leg_machine.proofs.Sendings.{IsHeldIn, Extends, extends-itself, extends-push, again-sending, AllSent, none-sent}
+use Rattle.leg_machine.proofs.Sendings.{one-sent}
 use Rattle.leg_machine.proofs.Tied.{either, of-full-step, of-vnak-step, prepared-history, taken-history}
 use Rattle.leg_machine.proofs.TiedSends.{kept-tries, last-none}
 
@@ -65,7 +70,8 @@ sent-takes (Taken f ∷ h) r frame = sent-takes h r frame
 numbered-prepared : (leg : LegState) (frame : FullFrame) → SendsNumbered leg → SendsNumbered (prepared leg frame)
 numbered-prepared leg frame all =
     (none-sent leg (prepared leg frame)
-    (ap sent_frames (prepared-history leg frame) ∙ sent-acks leg.window.history (count_of (judged_acknowledgement leg.window.history frame.head.iseqno))) all).numbered
+    (ap sent_frames (prepared-history leg frame) ∙ sent-acks leg.window.history
+    (count_of (judged_acknowledgement leg.window.history frame.head.iseqno))) all).numbered
 
 pub stays : (leg : LegState) → SendsNumbered leg → AllSent leg []
 stays leg all = none-sent leg leg refl all
@@ -73,16 +79,19 @@ stays leg all = none-sent leg leg refl all
 acks : (leg : LegState) (frame : FullFrame) → SendsNumbered leg → AllSent leg (ack leg frame ∷ [])
 acks leg frame all = record {
   numbered = all;
-  sendings = All-cons (IsSendingOf leg.window.history) (ack leg frame) [] (ack-sending leg frame) (All-nil (IsSendingOf leg.window.history));
+  sendings = All-cons (IsSendingOf leg.window.history) (ack leg frame) [] (ack-sending leg frame)
+      (All-nil (IsSendingOf leg.window.history));
 }
 
 vnaks : (leg : LegState) (frame : FullFrame) (now : ℕ) → SendsNumbered leg → AllSent (asked leg now) (vnak leg frame ∷ [])
 vnaks leg frame now all = record {
   numbered = all;
-  sendings = All-cons (IsSendingOf leg.window.history) (vnak leg frame) [] (vnak-sending leg frame) (All-nil (IsSendingOf leg.window.history));
+  sendings = All-cons (IsSendingOf leg.window.history) (vnak leg frame) [] (vnak-sending leg frame)
+      (All-nil (IsSendingOf leg.window.history));
 }
 
-answer-sent : (leg : LegState) (frame : FullFrame) (now : ℕ) (answer : Answering) → SendsNumbered leg → AllSent (replied leg now answer) (answers leg frame now answer)
+answer-sent : (leg : LegState) (frame : FullFrame) (now : ℕ) (answer : Answering) → SendsNumbered leg
+    → AllSent (replied leg now answer) (answers leg frame now answer)
 answer-sent leg frame now (Answered reply) all =
     one-sent leg (replied leg now (Answered reply)) (reply_frame leg now reply) refl all (reply-numbered leg now reply)
 answer-sent leg frame now Acknowledged all = acks leg frame all
@@ -93,7 +102,8 @@ pub taken-sent : (effect : Effect) (leg : LegState) (frame : FullFrame) (message
 taken-sent effect leg frame message now all =
     let next = taken effect leg frame message now in
     let numbered = (none-sent leg next
-    (ap sent_frames (taken-history effect leg frame message now) ∙ sent-takes leg.window.history (judged_number leg.window.history frame.head.oseqno) (stored frame)) all).numbered in
+    (ap sent_frames (taken-history effect leg frame message now) ∙ sent-takes leg.window.history
+    (judged_number leg.window.history frame.head.oseqno) (stored frame)) all).numbered in
     either (λ (s : Step). AllSent s.leg s.replies) (is_reply effect.answer && is_full leg.window) (no_room leg)
     (answered effect.answer next frame now effect.signal) (stays leg all) (answer-sent next frame now effect.answer numbered)
 
@@ -102,7 +112,8 @@ judged-sent : (r : Received) (leg : LegState) (frame : FullFrame) (message : Mes
 judged-sent received.Taken leg frame message now all = taken-sent (effect_of leg frame message) leg frame message now all
 judged-sent received.Repeat leg frame message now all = acks leg frame all
 judged-sent received.Gap leg frame message now all =
-    either (λ (s : Step). AllSent s.leg s.replies) (wants_vnak leg now) (asking leg frame now) (not_asking leg) (vnaks leg frame now all) (stays leg all)
+    either (λ (s : Step). AllSent s.leg s.replies) (wants_vnak leg now) (asking leg frame now) (not_asking leg)
+    (vnaks leg frame now all) (stays leg all)
 
 resend-sent : (leg : LegState) (now : ℕ) → SendsNumbered leg → AllSent (resend_step leg now).leg (resend_step leg now).replies
 resend-sent leg now all =
@@ -111,7 +122,8 @@ resend-sent leg now all =
       numbered = all;
       sendings =
           All-map (IsSendingOf h) (sent_again leg) (held_frames leg.window)
-          (All-weaker (IsHeldIn h) (λ (held : Held Frame). IsSendingOf h (sent_again leg held)) (λ held is. again-sending leg held h (extends-itself h) all is)
+          (All-weaker (IsHeldIn h) (λ (held : Held Frame). IsSendingOf h (sent_again leg held))
+          (λ held is. again-sending leg held h (extends-itself h) all is)
           (held_frames leg.window) (held-all leg.window));
     }
 
@@ -119,17 +131,24 @@ again-all : (leg : LegState) (place : ℕ) (now : ℕ) (final : List Entry) → 
     → All (IsSendingOf final) (frames_again leg place)
 again-all leg place now final extends all = each (held_at leg.window place) refl
   where
-    each : (h : Option (Held Frame)) → held_at leg.window place ≡ h → All (IsSendingOf final) (option_to_list (option_map (sent_again leg) h))
+    each : (h : Option (Held Frame)) → held_at leg.window place ≡ h
+        → All (IsSendingOf final) (option_to_list (option_map (sent_again leg) h))
     each None is = All-nil (IsSendingOf final)
     each (Some held) is =
         All-cons (IsSendingOf final) (sent_again leg held) []
-        (again-sending leg held final extends all (all-at (IsHeldIn leg.window.history) (held_frames leg.window) place held (held-all leg.window) is))
+        (again-sending leg held final extends all (all-at (IsHeldIn leg.window.history) (held_frames leg.window) place held
+        (held-all leg.window) is))
         (All-nil (IsSendingOf final))
 
 oldest-sent : (leg : LegState) (now : ℕ) → SendsNumbered leg → AllSent (oldest_step leg now).leg (oldest_step leg now).replies
-oldest-sent leg now all = record { numbered = all; sendings = again-all leg 0 now leg.window.history (extends-itself leg.window.history) all }
+oldest-sent leg now all = record {
+  numbered = all;
+  sendings = again-all leg 0 now leg.window.history
+      (extends-itself leg.window.history) all;
+}
 
-pub full-sent : (leg : LegState) (frame : FullFrame) (now : ℕ) → SendsNumbered leg → let s = full_step leg frame now in AllSent s.leg s.replies
+pub full-sent : (leg : LegState) (frame : FullFrame) (now : ℕ) → SendsNumbered leg → let s = full_step leg frame now in
+    AllSent s.leg s.replies
 full-sent leg frame now all =
     let message = message_of frame.head in
     let mid = prepared leg frame in
@@ -139,8 +158,10 @@ full-sent leg frame now all =
     let judged = judged_number mid.window.history frame.head.oseqno in
     let Sends : Step → Type 0 = λ s. AllSent s.leg s.replies in
     of-full-step Sends leg frame now (none-sent leg (invalidated leg now).leg refl all) (stays leg all)
-    (of-vnak-step Sends counted mid frame.head.iseqno now (oldest-sent noted now numbered) (resend-sent noted now numbered) (stays mid numbered))
-    (either Sends (is_numbered message) (judged_step judged mid frame message now) (nothing_sent mid) (judged-sent judged mid frame message now numbered) (stays mid numbered))
+    (of-vnak-step Sends counted mid frame.head.iseqno now (oldest-sent noted now numbered) (resend-sent noted now numbered)
+    (stays mid numbered))
+    (either Sends (is_numbered message) (judged_step judged mid frame message now) (nothing_sent mid)
+    (judged-sent judged mid frame message now numbered) (stays mid numbered))
 
 -- ---- the answer of a call
 
@@ -148,11 +169,13 @@ full-sent leg frame now all =
 pub spelled : (leg : LegState) (frames : List FullFrame) → AllSent leg frames → All (IsSending leg) (map spelling frames)
 spelled leg frames all = All-map (IsSending leg) spelling frames (λ k d lt. (_, refl, all.sendings k d lt))
 
-pub written : (leg new : LegState) (frames : List FullFrame) (datagrams : List (List ℕ)) → AllSent leg frames → new ≡ leg → datagrams ≡ map spelling frames → HasSent new datagrams
+pub written : (leg new : LegState) (frames : List FullFrame) (datagrams : List (List ℕ)) → AllSent leg frames → new ≡ leg
+    → datagrams ≡ map spelling frames → HasSent new datagrams
 written leg new frames datagrams all is spelt = record {
   numbered = subst SendsNumbered (sym is) all.numbered;
   sendings =
-      subst (λ (l : LegState). All (IsSending l) datagrams) (sym is) (All-same (IsSending leg) datagrams (map spelling frames) spelt (spelled leg frames all));
+      subst (λ (l : LegState). All (IsSending l) datagrams) (sym is) (All-same (IsSending leg) datagrams (map spelling frames)
+      spelt (spelled leg frames all));
 }
 
 -- ---- an order
@@ -188,28 +211,33 @@ pub call-sent : (rules : PeerRules) (number : ℕ) (called : List ℕ) (caller :
     → let s = open_out_step rules number called caller format now in AllSent s.leg s.replies
 call-sent rules number called caller format now =
     let leg = leg_for_call rules number format now in
-    one-sent leg (open_out_step rules number called caller format now).leg (new_frame leg now called caller) refl (All-nil IsNumberedFrame) refl
+    one-sent leg (open_out_step rules number called caller format now).leg (new_frame leg now called caller) refl
+    (All-nil IsNumberedFrame) refl
 
 -- a leg that took a NEW before anything else
 pub opened-written : (effect : Effect) (leg new : LegState) (frame : FullFrame) (now : ℕ) (before datagrams : List (List ℕ))
-    → new ≡ (taken_step effect leg frame New now).leg → datagrams ≡ before ++ map spelling (taken_step effect leg frame New now).replies
+    → new ≡ (taken_step effect leg frame New now).leg
+    → datagrams ≡ before ++ map spelling (taken_step effect leg frame New now).replies
     → before ≡ [] → leg.window.history ≡ [] → HasSent new datagrams
 opened-written effect leg new frame now before datagrams ends spelt empty first =
     let step = taken_step effect leg frame New now in
-    let numbered = All-same IsNumberedFrame (sent_frames leg.window.history) [] (ap sent_frames first) (All-nil IsNumberedFrame) in
+    let numbered = All-same IsNumberedFrame (sent_frames leg.window.history) [] (ap sent_frames first)
+    (All-nil IsNumberedFrame) in
     written step.leg new step.replies datagrams (taken-sent effect leg frame New now numbered) ends
     (spelt ∙ ap (λ (outs : List (List ℕ)). outs ++ map spelling step.replies) empty)
 
 -- ---- a tick
 
-try-sent : (r : Resent) (leg : LegState) (now : ℕ) (rest : LegState → Tried) (final : List Entry) → Extends leg.window.history final → SendsNumbered leg
+try-sent : (r : Resent) (leg : LegState) (now : ℕ) (rest : LegState → Tried) (final : List Entry)
+    → Extends leg.window.history final → SendsNumbered leg
     → ((l : LegState) → Extends l.window.history final → SendsNumbered l → All (IsSendingOf final) (rest l).replies)
     → All (IsSendingOf final) (one_try r leg now rest).replies
 try-sent resents.Nothing leg now rest final extends all later = All-nil (IsSendingOf final)
 try-sent resents.Spent leg now rest final extends all later = All-nil (IsSendingOf final)
 try-sent (resents.Again place) leg now rest final extends all later =
     let next = after_try leg place now in
-    All-append (IsSendingOf final) (frames_again next place) (rest next).replies (again-all next place now final extends all) (later next extends all)
+    All-append (IsSendingOf final) (frames_again next place) (rest next).replies (again-all next place now final extends all)
+    (later next extends all)
 
 tries-sent : (turns : ℕ) (leg : LegState) (now : ℕ) (final : List Entry) → Extends leg.window.history final → SendsNumbered leg
     → All (IsSendingOf final) (tries turns leg now).replies
@@ -229,11 +257,13 @@ last-quiet leg new same all = record {
   extends = subst (Extends leg.window.history) (sym same) (extends-itself leg.window.history);
 }
 
-ping-sent : (grown : Bool) (leg : LegState) (now : ℕ) → SendsNumbered leg → LastSent leg (sends_if grown leg (pinged leg now) now replies.Ping)
+ping-sent : (grown : Bool) (leg : LegState) (now : ℕ) → SendsNumbered leg
+    → LastSent leg (sends_if grown leg (pinged leg now) now replies.Ping)
 ping-sent true leg now all =
     let frame = reply_frame (pinged leg now) now replies.Ping in
     record {
-      sent = one-sent (pinged leg now) (sends_if true leg (pinged leg now) now replies.Ping).leg frame refl all (reply-numbered (pinged leg now) now replies.Ping);
+      sent = one-sent (pinged leg now) (sends_if true leg (pinged leg now) now replies.Ping).leg frame refl all
+          (reply-numbered (pinged leg now) now replies.Ping);
       extends = extends-push leg.window.history frame;
     }
 ping-sent false leg now all = record { sent = stays leg all; extends = extends-itself leg.window.history }
@@ -285,18 +315,21 @@ hung-sent true leg now all =
     record {
       numbered = tail.numbered;
       sendings =
-          All-cons (IsSendingOf last.leg.window.history) (outgoing closing false (next_byte closing) frame) (tried.replies ++ last.replies)
+          All-cons (IsSendingOf last.leg.window.history) (outgoing closing false (next_byte closing) frame)
+          (tried.replies ++ last.replies)
           (subst (λ (h : List Entry). IsSendingOf h (outgoing closing false (next_byte closing) frame)) (sym still)
           (new-sending closing frame (reply-numbered closing now bye)))
           tail.sendings;
     }
 hung-sent false leg now all = tail-sent (held_count leg.window) false leg now all
 
-pub tick-sent : (grown : Bool) (leg : LegState) (now : ℕ) → SendsNumbered leg → let t = tick_step grown leg now in AllSent t.leg t.replies
+pub tick-sent : (grown : Bool) (leg : LegState) (now : ℕ) → SendsNumbered leg → let t = tick_step grown leg now in
+    AllSent t.leg t.replies
 tick-sent grown leg now all =
     let Sends : Tick → Type 0 = λ t. AllSent t.leg t.replies in
     either Sends (is_ended leg.stage) (quiet leg) _ (stays leg all)
     (either Sends (must_end leg now) (quiet (failed leg (end_failure leg) now)) (due_frames grown leg now)
     (none-sent leg (failed leg (end_failure leg) now) refl all)
-    (either (Finishes grown leg now) (must_hang_up leg) (sends_if grown leg (entered leg stages.Closing now) now (replies.Hangup leg.cause)) (quiet leg)
+    (either (Finishes grown leg now) (must_hang_up leg) (sends_if grown leg (entered leg stages.Closing now) now
+    (replies.Hangup leg.cause)) (quiet leg)
     (hung-sent grown leg now all) (tail-sent (held_count leg.window) grown leg now all)))

@@ -1,13 +1,15 @@
 -- The full frames that a leg writes are sendings of a network's side.
 use Rattle.std.specs.Prelude.{nat_lt, All, slice_get}
-use Rattle.std.proofs.Common.{◌≡◌, ℕ, zero, suc, ◌+◌, ◌≤◌, Bool, true, false, cond, List, [], ◌∷◌, ◌++◌, length, drop, Option, None, Some, refl, sym, ap, subst, ◌∙◌, arith, zero-add, add-zero}
+use Rattle.std.proofs.Common.{◌≡◌, ℕ, zero, suc, ◌+◌, ◌≤◌, Bool, true, false, cond, List, [], ◌∷◌, ◌++◌, length, drop, Option}
+use Rattle.std.proofs.Common.{None, Some, refl, sym, ap, subst, ◌∙◌, arith, zero-add, add-zero}
 use Rattle.std.proofs.lemmas.List.Elements.{All-nil, All-cons, All-push, All-same}
 use Rattle.std.proofs.lemmas.Option.{get_or_from_slice_get, slice_get_within}
 use Rattle.iax_frames.specs.FullFrame.{FullFrame, subclass_meaning}
 use Rattle.iax_frames.specs.declared.stored_frame.Frame.{Frame}
 use Rattle.resend_queue.specs.declared.held_frame.Held.{Held}
 use Rattle.seq_window.specs.Entry.{Entry, Sent, Acked, Taken}
-use Rattle.seq_window.specs.History.{sent as sent_frames, taken as taken_frames, sent_count, taken_count, acked_count, held as held_of}
+use Rattle.seq_window.specs.History.{sent as sent_frames, taken as taken_frames, sent_count, taken_count, acked_count}
+use Rattle.seq_window.specs.History.{held as held_of}
 use Rattle.seq_window.specs.Sequence.{byte_of}
 use Rattle.seq_window.specs.Window.{WindowState, Sending, numbered_from, held_frames}
 use Rattle.call_signals.specs.Codes.{FRAME_IAX, IAX_ACK, IAX_VNAK}
@@ -61,7 +63,8 @@ get-drop (suc n) (x ∷ xs) i =
 -- ---- numbered frames
 
 dtmf-numbered : (meaning : Option ℕ) → is_numbered (message_by 1 meaning) ≡ true
-dtmf-numbered (Some digit) = either (λ (m : Message). is_numbered m ≡ true) (nat_lt digit 128) (messages.Dtmf digit) messages.Other refl refl
+dtmf-numbered (Some digit) = either (λ (m : Message). is_numbered m ≡ true) (nat_lt digit 128) (messages.Dtmf digit)
+    messages.Other refl refl
 dtmf-numbered None = refl
 
 pub reply-numbered : (leg : LegState) (now : ℕ) (reply : Reply) → IsNumberedFrame (reply_frame leg now reply)
@@ -82,7 +85,8 @@ no-inval _ numbered = refl
 
 -- ---- a frame that is sent now, and one without a number
 
-pub new-sending : (leg : LegState) (frame : Frame) → IsNumberedFrame frame → IsSendingOf (leg.window.history ++ Sent frame ∷ []) (outgoing leg false (next_byte leg) frame)
+pub new-sending : (leg : LegState) (frame : Frame) → IsNumberedFrame frame → IsSendingOf (leg.window.history ++ Sent frame ∷ [])
+    (outgoing leg false (next_byte leg) frame)
 new-sending leg frame numbered =
     let h = leg.window.history in
     record {
@@ -95,8 +99,10 @@ new-sending leg frame numbered =
       no_inval = no-inval (message_by frame.kind (subclass_meaning frame.subclass)) numbered;
     }
 
-unnumbered-sending : (leg : LegState) (subclass timestamp : ℕ) → is_numbered (message_by FRAME_IAX (subclass_meaning subclass)) ≡ false
-    → is_inval (message_by FRAME_IAX (subclass_meaning subclass)) ≡ false → IsSendingOf leg.window.history (unnumbered leg subclass timestamp)
+unnumbered-sending : (leg : LegState) (subclass timestamp : ℕ) → is_numbered (message_by FRAME_IAX (subclass_meaning subclass))
+    ≡ false
+    → is_inval (message_by FRAME_IAX (subclass_meaning subclass)) ≡ false
+    → IsSendingOf leg.window.history (unnumbered leg subclass timestamp)
 unnumbered-sending leg subclass timestamp bare no_inval =
     let h = leg.window.history in
     record {
@@ -130,7 +136,8 @@ numbered-held h first [] sendings le at = All-nil (IsHeldIn h)
 numbered-held h first (f ∷ frames) [] le at = All-nil (IsHeldIn h)
 numbered-held h first (f ∷ frames) (s ∷ sendings) le at =
     let here : slice_get (sent_frames h) first ≡ Some f = ap (slice_get (sent_frames h)) (sym (add-zero first)) ∙ at 0 f refl in
-    All-cons (IsHeldIn h) (record { number = byte_of first; frame = f; last = s.last; tries = s.tries }) (numbered_from (first + 1) frames sendings)
+    All-cons (IsHeldIn h) (record { number = byte_of first; frame = f; last = s.last; tries = s.tries })
+    (numbered_from (first + 1) frames sendings)
     (first, refl, here, le)
     (numbered-held h (first + 1) frames sendings (omega arith)
     (λ i g later. let e : (first + 1) + i ≡ first + suc i = omega arith in ap (slice_get (sent_frames h)) e ∙ at (suc i) g later))
@@ -161,7 +168,8 @@ extends-push h f = record {
 }
 
 -- a held frame that is retransmitted, perhaps before a new one
-pub again-sending : (leg : LegState) (held : Held Frame) (final : List Entry) → Extends leg.window.history final → SendsNumbered leg → IsHeldIn leg.window.history held
+pub again-sending : (leg : LegState) (held : Held Frame) (final : List Entry) → Extends leg.window.history final
+    → SendsNumbered leg → IsHeldIn leg.window.history held
     → IsSendingOf final (sent_again leg held)
 again-sending leg held final extends all (n, byte, at, acked) =
     let numbered = all-at IsNumberedFrame (sent_frames leg.window.history) n held.frame all at in
@@ -182,21 +190,25 @@ pub record AllSent (leg : LegState) (frames : List FullFrame) : Type 0 where
   pub numbered : SendsNumbered leg
   pub sendings : All (IsSendingOf leg.window.history) frames
 
-pub none-sent : (old new : LegState) → sent_frames new.window.history ≡ sent_frames old.window.history → SendsNumbered old → AllSent new []
+pub none-sent : (old new : LegState) → sent_frames new.window.history ≡ sent_frames old.window.history → SendsNumbered old
+    → AllSent new []
 none-sent old new same numbered = record {
   numbered = All-same IsNumberedFrame (sent_frames new.window.history) (sent_frames old.window.history) same numbered;
   sendings = All-nil (IsSendingOf new.window.history);
 }
 
 -- one new frame
-pub one-sent : (leg new : LegState) (frame : Frame) → new.window.history ≡ leg.window.history ++ Sent frame ∷ [] → SendsNumbered leg → IsNumberedFrame frame
+pub one-sent : (leg new : LegState) (frame : Frame) → new.window.history ≡ leg.window.history ++ Sent frame ∷ []
+    → SendsNumbered leg → IsNumberedFrame frame
     → AllSent new (outgoing leg false (next_byte leg) frame ∷ [])
 one-sent leg new frame grows all numbered = record {
   numbered =
       All-same IsNumberedFrame (sent_frames new.window.history) (sent_frames leg.window.history ++ frame ∷ [])
-      (ap sent_frames grows ∙ sent-push leg.window.history frame) (All-push IsNumberedFrame (sent_frames leg.window.history) frame all numbered);
+      (ap sent_frames grows ∙ sent-push leg.window.history frame) (All-push IsNumberedFrame (sent_frames leg.window.history) frame
+      all numbered);
   sendings =
       All-cons (IsSendingOf new.window.history) (outgoing leg false (next_byte leg) frame) []
-      (subst (λ (h : List Entry). IsSendingOf h (outgoing leg false (next_byte leg) frame)) (sym grows) (new-sending leg frame numbered))
+      (subst (λ (h : List Entry). IsSendingOf h (outgoing leg false (next_byte leg) frame)) (sym grows)
+      (new-sending leg frame numbered))
       (All-nil (IsSendingOf new.window.history));
 }

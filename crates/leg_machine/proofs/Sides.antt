@@ -14,7 +14,8 @@ use Rattle.leg_machine.specs.Openings.{opening_of, opening_effect, leg_for_new, 
 use Rattle.leg_machine.specs.OrderTable.{order_row, order_carried, media_datagrams, doomed, paid}
 use Rattle.leg_machine.specs.Replies.{present_of}
 use Rattle.leg_machine.specs.Steps.{Step, taken_step, taken, answered, no_room}
-use Rattle.leg_machine.specs.Tie.{TakesFirstTurn, HasSentAtMostOne, SendsNumbered, IsNumberedFrame, IsSendingOrMini, HasSent, HasSentOrMini}
+use Rattle.leg_machine.specs.Tie.{TakesFirstTurn, HasSentAtMostOne, SendsNumbered, IsNumberedFrame, IsSendingOrMini, HasSent}
+use Rattle.leg_machine.specs.Tie.{HasSentOrMini}
 use Rattle.leg_machine.specs.Working.{stored}
 use Rattle.call_signals.specs.declared.effects.Effect.{Effect}
 use Rattle.call_signals.specs.declared.format.Format.{Format}
@@ -45,7 +46,8 @@ none-out : (leg : LegState) → SendsNumbered leg → HasSentOrMini leg []
 none-out leg all = record { numbered = all; sendings = All-nil (IsSendingOrMini leg) }
 
 -- media as a mini frame
-mini-out : (leg : LegState) (timestamp : ℕ) (octets : List ℕ) → 0 < leg.number → leg.number < 2 ^ 15 → timestamp < 2 ^ 16 → SendsNumbered leg
+mini-out : (leg : LegState) (timestamp : ℕ) (octets : List ℕ) → 0 < leg.number → leg.number < 2 ^ 15 → timestamp < 2 ^ 16
+    → SendsNumbered leg
     → HasSentOrMini leg (media_datagrams (media.Mini timestamp) leg octets 0)
 mini-out leg timestamp octets some few short all =
     let mini : MiniFrame = record { source = leg.number; timestamp = timestamp; media = octets } in
@@ -53,7 +55,8 @@ mini-out leg timestamp octets some few short all =
       numbered = all;
       sendings =
           All-cons (IsSendingOrMini leg) (mini_spelling mini) []
-          (inr (mini, record { some_source = some; source = few; timestamp = short; whole = refl })) (All-nil (IsSendingOrMini leg));
+          (inr (mini, record { some_source = some; source = few; timestamp = short; whole = refl }))
+          (All-nil (IsSendingOrMini leg));
     }
 
 -- media, sent in any form
@@ -93,7 +96,8 @@ first-turn effect leg frame now first =
     taken-history effect leg frame New now
     ∙ ap (λ (h : List Entry). h ++ entries_for_number (judged_number h frame.head.oseqno) (stored frame)) first in
     either (λ (s : Step). TakesFirstTurn frame s.leg) (is_reply effect.answer && is_full leg.window) (no_room leg)
-    (answered effect.answer next frame now effect.signal) (record { acknowledges = false; receives = false; reply = None }, first) (
+    (answered effect.answer next frame now effect.signal)
+    (record { acknowledges = false; receives = false; reply = None }, first) (
       record { acknowledges = false; receives = true; reply = one.0 },
       one.1 ∙ ap (λ (entries : List Entry). entries ++ entries_for_reply one.0) before,
     )
@@ -106,7 +110,8 @@ opening-turn rules number frame now challenge =
 pub opening-sent : (rules : PeerRules) (number : ℕ) (frame : FullFrame) (now : ℕ) (challenge : List ℕ)
     → let s = open_in_step rules number frame now challenge in AllSent s.leg s.replies
 opening-sent rules number frame now challenge =
-    taken-sent (opening_effect (opening_of rules frame)) (leg_for_new rules number frame now challenge) frame New now (All-nil IsNumberedFrame)
+    taken-sent (opening_effect (opening_of rules frame)) (leg_for_new rules number frame now challenge) frame New now
+    (All-nil IsNumberedFrame)
 
 pub call-sends : (rules : PeerRules) (number : ℕ) (called : List ℕ) (caller : List ℕ) (format : Format) (now : ℕ)
     → HasSentAtMostOne (open_out_step rules number called caller format now).leg

@@ -1,5 +1,6 @@
 -- The entries that each step adds to the record.
-use Rattle.std.proofs.Common.{◌≡◌, ℕ, Bool, true, false, cond, List, [], ◌∷◌, ◌++◌, length, Option, None, Some, refl, sym, ap, ◌∙◌, append_assoc}
+use Rattle.std.proofs.Common.{◌≡◌, ℕ, Bool, true, false, cond, List, [], ◌∷◌, ◌++◌, length, Option, None, Some, refl, sym, ap}
+use Rattle.std.proofs.Common.{◌∙◌, append_assoc}
 use Rattle.std.proofs.lemmas.List.{append-nil}
 use Rattle.iax_frames.specs.FullFrame.{FullFrame}
 use Rattle.iax_frames.specs.declared.stored_frame.Frame.{Frame}
@@ -10,15 +11,19 @@ use Rattle.seq_window.specs.declared.judgements.Received.TheVariants as received
 use Rattle.seq_window.specs.History.{taken}
 use Rattle.seq_window.specs.Sequence.{number_byte_judged}
 use Rattle.seq_window.specs.Turn.{entries_for_reply, entries_for_acknowledgement, entries_for_frame}
-use Rattle.seq_window.specs.Window.{WindowState, after_receiving, judged_number, entries_for_number, entries_for_count, judged_acknowledgement, count_of}
+use Rattle.seq_window.specs.Window.{WindowState, after_receiving, judged_number, entries_for_number, entries_for_count}
+use Rattle.seq_window.specs.Window.{judged_acknowledgement, count_of}
 use Rattle.leg_machine.specs.Effects.{marked}
 use Rattle.leg_machine.specs.LegTable.{effect_of}
 use Rattle.leg_machine.specs.Leg.{LegState, entered}
 use Rattle.call_signals.specs.Message.{message_of, is_numbered, is_inval, is_vnak}
 use Rattle.leg_machine.specs.Replies.{reply_frame}
-use Rattle.leg_machine.specs.Steps.{Step, full_step, inval_step, invalidated, oldest_step, answer_step, vnak_step, resend_step, nothing_sent, asking, not_asking, numbered_step, judged_step, taken_step, taken as taken_leg, replied, answered, no_room, prepared}
+use Rattle.leg_machine.specs.Steps.{Step, full_step, inval_step, invalidated, oldest_step, answer_step, vnak_step, resend_step}
+use Rattle.leg_machine.specs.Steps.{nothing_sent, asking, not_asking, numbered_step, judged_step, taken_step, taken as taken_leg}
+use Rattle.leg_machine.specs.Steps.{replied, answered, no_room, prepared}
 use Rattle.leg_machine.specs.Tie.{TakesTurn, numbered_frame}
-use Rattle.leg_machine.specs.Working.{stored, settled, acknowledged, learnt, counts, wants_vnak, asked, end_noted, brings_oldest, vnak_noted, heeds_inval}
+use Rattle.leg_machine.specs.Working.{stored, settled, acknowledged, learnt, counts, wants_vnak, asked, end_noted, brings_oldest}
+use Rattle.leg_machine.specs.Working.{vnak_noted, heeds_inval}
 use Rattle.call_signals.specs.declared.effects.Answering.{Answering}
 use Rattle.call_signals.specs.declared.effects.Answering.TheVariants.{Acknowledged, Answered, Silent}
 use Rattle.call_signals.specs.declared.effects.Effect.{Effect}
@@ -41,7 +46,8 @@ settled-history : (leg : LegState) → (settled leg).window.history ≡ leg.wind
 settled-history leg = either (λ (l : LegState). l.window.history ≡ leg.window.history) _ _ _ refl refl
 
 -- the record with the acknowledgement of a frame
-pub prepared-history : (leg : LegState) (frame : FullFrame) → (prepared leg frame).window.history ≡ leg.window.history ++ entries_for_acknowledgement leg.window.history frame.head.iseqno
+pub prepared-history : (leg : LegState) (frame : FullFrame) → (prepared leg frame).window.history ≡ leg.window.history
+    ++ entries_for_acknowledgement leg.window.history frame.head.iseqno
 prepared-history leg frame = settled-history (acknowledged (learnt leg frame.head.source) frame.head.iseqno)
 
 marked-window : (leg : LegState) (m : Mark) → (marked leg m).window ≡ leg.window
@@ -51,11 +57,15 @@ marked-window leg marks.Unquelches = refl
 marked-window leg marks.Authenticates = refl
 
 -- the record with a frame taken
-pub taken-history : (effect : Effect) (leg : LegState) (frame : FullFrame) (message : Message) (now : ℕ) → (taken_leg effect leg frame message now).window.history ≡ leg.window.history ++ entries_for_number (judged_number leg.window.history frame.head.oseqno) (stored frame)
+pub taken-history : (effect : Effect) (leg : LegState) (frame : FullFrame) (message : Message) (now : ℕ)
+    → (taken_leg effect leg frame message now).window.history ≡ leg.window.history ++ entries_for_number
+    (judged_number leg.window.history frame.head.oseqno) (stored frame)
 taken-history effect leg frame message now =
-    ap (λ (w : WindowState). (after_receiving w frame.head.oseqno (stored frame)).history) (marked-window (entered (end_noted leg effect.stage frame message) effect.stage now) effect.mark)
+    ap (λ (w : WindowState). (after_receiving w frame.head.oseqno (stored frame)).history)
+    (marked-window (entered (end_noted leg effect.stage frame message) effect.stage now) effect.mark)
 
-pub replied-adds : (leg : LegState) (now : ℕ) (answer : Answering) → (reply : Option Frame) × ((replied leg now answer).window.history ≡ leg.window.history ++ entries_for_reply reply)
+pub replied-adds : (leg : LegState) (now : ℕ) (answer : Answering) → (reply : Option Frame) ×
+    ((replied leg now answer).window.history ≡ leg.window.history ++ entries_for_reply reply)
 replied-adds leg now (Answered reply) = (Some (reply_frame leg now reply), refl)
 replied-adds leg now Acknowledged = (None, sym (append-nil leg.window.history))
 replied-adds leg now Silent = (None, sym (append-nil leg.window.history))
@@ -66,7 +76,8 @@ same leg frame new e =
     (record { acknowledges = false; receives = false; reply = None }, e ∙ sym (append-nil leg.window.history))
 
 -- a step that adds at most an acknowledgement
-acknowledges : (leg : LegState) (frame : FullFrame) (new : LegState) → new.window.history ≡ leg.window.history ++ entries_for_acknowledgement leg.window.history frame.head.iseqno → TakesTurn leg frame new
+acknowledges : (leg : LegState) (frame : FullFrame) (new : LegState) → new.window.history ≡ leg.window.history
+    ++ entries_for_acknowledgement leg.window.history frame.head.iseqno → TakesTurn leg frame new
 acknowledges leg frame new e =
     let acks = entries_for_acknowledgement leg.window.history frame.head.iseqno in (
       record { acknowledges = true; receives = false; reply = None },
@@ -74,13 +85,15 @@ acknowledges leg frame new e =
     )
 
 -- the judgement is the same before and after the acknowledgement
-judged-later : (leg : LegState) (frame : FullFrame) → judged_number (prepared leg frame).window.history frame.head.oseqno ≡ judged_number leg.window.history frame.head.oseqno
+judged-later : (leg : LegState) (frame : FullFrame) → judged_number (prepared leg frame).window.history frame.head.oseqno
+    ≡ judged_number leg.window.history frame.head.oseqno
 judged-later leg frame =
     ap (λ (h : List Entry). judged_number h frame.head.oseqno) (prepared-history leg frame)
     ∙ ap (λ (fs : List Frame). number_byte_judged (length fs) frame.head.oseqno)
     (taken-acks leg.window.history (count_of (judged_acknowledgement leg.window.history frame.head.iseqno)))
 
-answered-turn : (leg : LegState) (frame : FullFrame) (effect : Effect) (message : Message) (now : ℕ) → is_numbered (message_of frame.head) ≡ true
+answered-turn : (leg : LegState) (frame : FullFrame) (effect : Effect) (message : Message) (now : ℕ)
+    → is_numbered (message_of frame.head) ≡ true
     → TakesTurn leg frame (replied (taken_leg effect (prepared leg frame) frame message now) now effect.answer)
 answered-turn leg frame effect message now numbered =
     let h = leg.window.history in
@@ -101,27 +114,34 @@ answered-turn leg frame effect message now numbered =
           ∙ ap (λ (entries : List Entry). h ++ ((acks ++ entries) ++ sends)) as_frame,
     )
 
-taken-turn : (leg : LegState) (frame : FullFrame) (effect : Effect) (message : Message) (now : ℕ) → is_numbered (message_of frame.head) ≡ true
+taken-turn : (leg : LegState) (frame : FullFrame) (effect : Effect) (message : Message) (now : ℕ)
+    → is_numbered (message_of frame.head) ≡ true
     → TakesTurn leg frame (taken_step effect (prepared leg frame) frame message now).leg
 taken-turn leg frame effect message now numbered =
     let mid = prepared leg frame in
-    either (λ (s : Step). TakesTurn leg frame s.leg) _ (no_room mid) (answered effect.answer (taken_leg effect mid frame message now) frame now effect.signal)
+    either (λ (s : Step). TakesTurn leg frame s.leg) _ (no_room mid)
+    (answered effect.answer (taken_leg effect mid frame message now) frame now effect.signal)
     (acknowledges leg frame mid (prepared-history leg frame)) (answered-turn leg frame effect message now numbered)
 
-judged-turn : (r : Received) (leg : LegState) (frame : FullFrame) (message : Message) (now : ℕ) → is_numbered (message_of frame.head) ≡ true
+judged-turn : (r : Received) (leg : LegState) (frame : FullFrame) (message : Message) (now : ℕ)
+    → is_numbered (message_of frame.head) ≡ true
     → TakesTurn leg frame (judged_step r (prepared leg frame) frame message now).leg
-judged-turn received.Taken leg frame message now numbered = taken-turn leg frame (effect_of (prepared leg frame) frame message) message now numbered
-judged-turn received.Repeat leg frame message now numbered = acknowledges leg frame (prepared leg frame) (prepared-history leg frame)
+judged-turn received.Taken leg frame message now numbered = taken-turn leg frame (effect_of (prepared leg frame) frame message)
+    message now numbered
+judged-turn received.Repeat leg frame message now numbered = acknowledges leg frame (prepared leg frame)
+    (prepared-history leg frame)
 judged-turn received.Gap leg frame message now numbered =
     let mid = prepared leg frame in
     either (λ (s : Step). TakesTurn leg frame s.leg) (wants_vnak mid now) (asking mid frame now) (not_asking mid)
-    (acknowledges leg frame (asked mid now) (prepared-history leg frame)) (acknowledges leg frame mid (prepared-history leg frame))
+    (acknowledges leg frame (asked mid now) (prepared-history leg frame))
+    (acknowledges leg frame mid (prepared-history leg frame))
 
 pub either_by : {A : Type 0} (P : A → Type 0) (b : Bool) (x y : A) → (b ≡ true → P x) → (b ≡ false → P y) → P (cond b x y)
 either_by P true x y p q = p refl
 either_by P false x y p q = q refl
 
-numbered-turn : (leg : LegState) (frame : FullFrame) (now : ℕ) → TakesTurn leg frame (numbered_step (prepared leg frame) frame (message_of frame.head) now).leg
+numbered-turn : (leg : LegState) (frame : FullFrame) (now : ℕ)
+    → TakesTurn leg frame (numbered_step (prepared leg frame) frame (message_of frame.head) now).leg
 numbered-turn leg frame now =
     let mid = prepared leg frame in
     let message = message_of frame.head in
@@ -131,7 +151,8 @@ numbered-turn leg frame now =
     (λ _. acknowledges leg frame mid (prepared-history leg frame))
 
 -- a property of each case of a VNAK (it brings the oldest frame, brings all, or is ignored) holds for its step
-pub of-vnak-step : (P : Step → Type 0) (j : Judgement) (leg : LegState) (number now : ℕ) → P (oldest_step (vnak_noted leg number now) now)
+pub of-vnak-step : (P : Step → Type 0) (j : Judgement) (leg : LegState) (number now : ℕ)
+    → P (oldest_step (vnak_noted leg number now) now)
     → P (resend_step (vnak_noted leg number now) now) → P (nothing_sent leg) → P (vnak_step j leg number now)
 of-vnak-step P j leg number now oldest all none =
     let noted = vnak_noted leg number now in
@@ -149,12 +170,14 @@ vnak-turn leg frame j now =
     (acknowledges leg frame mid (prepared-history leg frame))
 
 -- a property of an INVAL, heeded or not, of a VNAK and of any other frame holds for each full frame's step
-pub of-full-step : (P : Step → Type 0) (leg : LegState) (frame : FullFrame) (now : ℕ) → P (invalidated leg now) → P (nothing_sent leg)
+pub of-full-step : (P : Step → Type 0) (leg : LegState) (frame : FullFrame) (now : ℕ) → P (invalidated leg now)
+    → P (nothing_sent leg)
     → P (vnak_step (judged_acknowledgement leg.window.history frame.head.iseqno) (prepared leg frame) frame.head.iseqno now)
     → P (numbered_step (prepared leg frame) frame (message_of frame.head) now) → P (full_step leg frame now)
 of-full-step P leg frame now inval none vnak other =
     let message = message_of frame.head in
-    let vnak_one = vnak_step (judged_acknowledgement leg.window.history frame.head.iseqno) (prepared leg frame) frame.head.iseqno now in
+    let vnak_one = vnak_step (judged_acknowledgement leg.window.history frame.head.iseqno) (prepared leg frame) frame.head.iseqno
+    now in
     let other_one = numbered_step (prepared leg frame) frame message now in
     either P (is_inval message) (inval_step leg frame now) (cond (is_vnak message) vnak_one other_one)
     (either P (heeds_inval leg frame) (invalidated leg now) (nothing_sent leg) inval none)
@@ -162,5 +185,6 @@ of-full-step P leg frame now inval none vnak other =
 
 pub full-turn : (leg : LegState) (frame : FullFrame) (now : ℕ) → TakesTurn leg frame (full_step leg frame now).leg
 full-turn leg frame now =
-    of-full-step (λ (s : Step). TakesTurn leg frame s.leg) leg frame now (same leg frame (invalidated leg now).leg refl) (same leg frame leg refl)
+    of-full-step (λ (s : Step). TakesTurn leg frame s.leg) leg frame now (same leg frame (invalidated leg now).leg refl)
+    (same leg frame leg refl)
     (vnak-turn leg frame (judged_acknowledgement leg.window.history frame.head.iseqno) now) (numbered-turn leg frame now)

@@ -1,5 +1,6 @@
 -- A leg of a call, as its steps use it ("IAX Frames", "Message Transport").
-use Rattle.std.specs.Prelude.{ℕ, ◌+◌, ◌-◌, ◌/◌, ◌%◌, ◌^◌, ◌≤◌, Bool, true, false, ◌||◌, ◌&&◌, not, nat_le, nat_lt, is_none, is_some, List, Option, None, Some, if◌then◌else◌, unwrap_or}
+use Rattle.std.specs.Prelude.{ℕ, ◌+◌, ◌-◌, ◌/◌, ◌%◌, ◌^◌, ◌≤◌, Bool, true, false, ◌||◌, ◌&&◌, not, nat_le, nat_lt, is_none}
+use Rattle.std.specs.Prelude.{is_some, List, Option, None, Some, if◌then◌else◌, unwrap_or}
 use Rattle.seq_window.specs.History.{data_octets}
 use Rattle.seq_window.specs.Window.{WindowState, entry_count}
 use Rattle.call_signals.specs.declared.cause.Cause.{Cause}

@@ -50,11 +50,12 @@ leg_for_call rules number format now = record {
 
 -- The other side's number is known, and the challenge is the one that is sent.
 abbrev pub leg_for_new : PeerRules → ℕ → FullFrame → ℕ → List ℕ → LegState
-leg_for_new rules number frame now challenge = record (leg_for_call rules number (unwrap_or (call_format rules.formats frame) Gsm) now) {
-  stage = stages.Offered;
-  remote = Some frame.head.source;
-  challenge = challenge_sent (opening_of rules frame) challenge;
-}
+leg_for_new rules number frame now challenge = record (leg_for_call rules number (unwrap_or (call_format rules.formats frame) Gsm)
+    now) {
+      stage = stages.Offered;
+      remote = Some frame.head.source;
+      challenge = challenge_sent (opening_of rules frame) challenge;
+    }
 
 -- a NEW comes
 abbrev pub open_in_step : PeerRules → ℕ → FullFrame → ℕ → List ℕ → Step

@@ -1,6 +1,7 @@
 //! The laws of a leg.
 
-ghost use Rattle.std.specs.Prelude.{◌≡◌, ◌≢◌, [], ◌∷◌, ◌⊎◌, ◌↔◌, ◌≤◌, ◌<◌, ◌^◌, ◌||◌, ℕ, Bool, true, false, List, length, min, is_some, Option, None, Some, map};
+ghost use Rattle.std.specs.Prelude.{◌≡◌, ◌≢◌, [], ◌∷◌, ◌⊎◌, ◌↔◌, ◌≤◌, ◌<◌, ◌^◌, ◌||◌, ℕ, Bool, true, false, List, length, min};
+ghost use Rattle.std.specs.Prelude.{is_some, Option, None, Some, map};
 ghost use Rattle.iax_frames.specs.FullFrame.{FullFrame, spelling};
 ghost use Rattle.seq_window.specs.History.{data_octets, taken_count};
 ghost use Rattle.seq_window.specs.Window.{entry_count, held_count, held_frames};
@@ -32,12 +33,12 @@ ghost use Rattle.call_signals.specs.declared.rules.PeerRules.{PeerRules};
 ghost use Rattle.call_signals.specs.declared.signal.MediaSpan.{MediaSpan};
 ghost use Rattle.call_signals.specs.declared.stage.Stage.TheVariants.{Challenged, Waiting, Ended};
 
-/// A tick has a turn for each frame that was held when it began. These never run out before a frame is spent or none is due
-/// any more.
+/// A tick takes a turn for each frame that was held when it began. These turns suffice: after them a frame has spent its
+/// retries, or none is due.
 pub fn ticks_finish_their_tries()
     ensures tries { (leg : LegState) (now : ℕ) → 1 ≤ leg.rules.retry_ms →
         IsFinished (tries (held_count leg.window) leg now) now }
-    // Also if a doomed leg first sends its HANGUP, which is then held with the others.
+    // This also holds if a doomed leg first sends its HANGUP, which is then held with the others.
     ensures after_hanging_up { (grown : Bool) (leg : LegState) (now : ℕ) → 1 ≤ leg.rules.retry_ms →
         IsFinished (tries (held_count leg.window) (hang_up_step grown leg now).leg now) now }
     // After a tick the leg has ended, or no held frame is due.
@@ -76,15 +77,16 @@ pub fn gaps_are_answered()
         (full_step leg frame now).leg.vnak_sent ≡ None }
 {}
 
-/// The effect of a forged frame on a leg whose rules harden it. A VNAK that repeats brings at most one frame. An INVAL that
-/// doesn't name the leg changes nothing and brings nothing.
+/// The effect of a forged frame on a leg whose rules harden it. A repeated VNAK causes at most one
+/// retransmission. An INVAL that doesn't name the leg changes nothing and causes no frame.
 pub fn hardening_is_by_the_rules()
     ensures vnaks { (leg : LegState) (number : ℕ) (now : ℕ) → leg.rules.is_hardened ≡ true →
         is_repetition leg.vnak_answered number now (min leg.rules.retry_ms 100) ≡ true →
         length (answer_step leg number now).replies ≤ 1 }
     ensures invals { (leg : LegState) (frame : FullFrame) (now : ℕ) → leg.rules.is_hardened ≡ true →
         is_inval (message_of frame.head) ≡ true → names_leg leg frame ≡ false → full_step leg frame now ≡ nothing_sent leg }
-    // By other rules each VNAK brings all held frames, each INVAL ends the leg, and a doomed leg accepts digits.
+    // By other rules each VNAK causes all held frames to be sent again, each INVAL ends the leg, and a doomed leg accepts
+    // digits.
     ensures all_vnaks { (leg : LegState) (number : ℕ) (now : ℕ) → leg.rules.is_hardened ≡ false →
         (answer_step leg number now).replies ≡ map (sent_again leg) (held_frames leg.window) }
     ensures all_invals { (leg : LegState) (frame : FullFrame) (now : ℕ) → leg.rules.is_hardened ≡ false →
@@ -107,8 +109,8 @@ pub fn challenges_are_by_the_rules()
         tick_step grown leg now ≡ quiet (failed leg (end_failure leg) now) }
 {}
 
-/// Each step of a leg is one that callers at once allow for: that of a frame, an order, a tick or an opening. They see only
-/// its stage, whether it is doomed, whether it owes, and the signal that it hands up.
+/// Each step of a leg, by a frame, an order, a tick or an opening, is a step of the model of concurrent callers. The model
+/// sees only the leg's stage, whether it is doomed, whether it owes, and the signal that it hands up.
 pub fn steps_are_seen()
     ensures frames { (leg : LegState) (frame : FullFrame) (now : ℕ) →
         IsSeenFrame (seen leg) (seen (full_step leg frame now).leg) (full_step leg frame now).signal }

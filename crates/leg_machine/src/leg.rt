@@ -8,13 +8,15 @@ ghost use Rattle.leg_machine.specs.Openings.{open_in_step, open_out_step};
 ghost use Rattle.leg_machine.specs.OrderTable.{order_refused, media_refused, is_voice, wants_memory, IsRefusal, IsShortMedia};
 ghost use Rattle.leg_machine.specs.OrderTable.{order_carried};
 ghost use Rattle.call_signals.specs.PeerRules.{IsPeerRules};
-ghost use Rattle.leg_machine.specs.Seen.{seen, kind_of, stage_after, stage_ordered, fresh_leg, IsSeenFrame, IsSeenOpening, IsSeenOrder};
+ghost use Rattle.leg_machine.specs.Seen.{seen, kind_of, stage_after, stage_ordered, fresh_leg, IsSeenFrame, IsSeenOpening};
+ghost use Rattle.leg_machine.specs.Seen.{IsSeenOrder};
 ghost use Rattle.leg_machine.specs.Seen.{IsSeenTick};
 ghost use Rattle.leg_machine.specs.Steps.{full_step, heard_of};
 ghost use Rattle.leg_machine.specs.Ticks.{tick_step};
 ghost use Rattle.leg_machine.specs.Tie.{TakesTurn, SendsAtMostOne, TakesFirstTurn, HasSentAtMostOne, IsSending, IsSendingOrMini};
 ghost use Rattle.leg_machine.specs.Tie.{IsLegOf};
 ghost use Rattle.call_signals.specs.declared.order.OrderKind.TheVariants as kinds;
+ghost use Rattle.memory_requests.specs.Refused.{WasRefused};
 
 use crate::machine::Machine;
 use crate::media::MediaSent;
@@ -81,10 +83,11 @@ impl Leg {
         ensures remote { IfOk result (λ opened. opened.0.state.remote ≡ Some frame.now.head.source) }
         ensures ruled { IfOk result (λ opened. IsLegOf rules.now opened.0.state) }
         // The record begins as that of one side of a network may.
-        ensures tied { IfOk result (λ opened. TakesFirstTurn frame.now opened.0.state) }
+        ensures extends_history { IfOk result (λ opened. TakesFirstTurn frame.now opened.0.state) }
         ensures sendings { IfOk result (λ opened. All (IsSending opened.0.state) replies.new) }
-        ensures seen { IfOk result (λ opened. IsSeenOpening (seen opened.0.state) opened.1.signal) }
+        ensures refines_abstract_leg { IfOk result (λ opened. IsSeenOpening (seen opened.0.state) opened.1.signal) }
         ensures none_sent { OnErr result (replies.new ≡ replies.old) }
+        ensures no_memory { OnErr result WasRefused }
     {
         let elements = NewElements::read(frame.payload());
         let opening = opening_of(rules, &elements);
@@ -122,10 +125,11 @@ impl Leg {
         ensures leg { IfOk result (λ leg. leg.state ≡ (open_out_step rules.now number called.now caller.now format now).leg) }
         ensures replies { OnOk result (replies.new ≡
             map spelling (open_out_step rules.now number called.now caller.now format now).replies) }
-        ensures tied { IfOk result (λ leg. HasSentAtMostOne leg.state) }
+        ensures extends_history { IfOk result (λ leg. HasSentAtMostOne leg.state) }
         ensures sendings { IfOk result (λ leg. All (IsSending leg.state) replies.new) }
-        ensures seen { IfOk result (λ leg. seen leg.state ≡ fresh_leg Stage.Waiting) }
+        ensures refines_abstract_leg { IfOk result (λ leg. seen leg.state ≡ fresh_leg Stage.Waiting) }
         ensures none_sent { OnErr result (replies.new ≡ replies.old) }
+        ensures no_memory { OnErr result WasRefused }
     {
         let mut machine = Machine::new(alloc, rules, number, format, now)?;
         let mut elements = Payload::empty();
@@ -152,15 +156,17 @@ impl Leg {
         ensures replies { OnOk result (replies.new ≡ map spelling (full_step self.old.state frame.now now).replies) }
         ensures heard { IfOk result (λ heard. heard ≡ heard_of (full_step self.old.state frame.now now)) }
         // The record grows as that of one side of a network does.
-        ensures tied { OnOk result (TakesTurn self.old.state frame.now self.new.state) }
+        ensures extends_history { OnOk result (TakesTurn self.old.state frame.now self.new.state) }
         // Such a side can send each frame that is sent.
         ensures sendings { OnOk result (All (IsSending self.new.state) replies.new) }
-        ensures seen { IfOk result (λ heard. IsSeenFrame (seen self.old.state) (seen self.new.state) heard.signal) }
+        ensures refines_abstract_leg { IfOk result (λ heard. IsSeenFrame (seen self.old.state) (seen self.new.state)
+            heard.signal) }
         ensures record_full { (result ≡ Err StepError.RecordFull) ↔ (is_record_full self.old.state ≡ true) }
         ensures memory { result ≡ Err StepError.Memory → self.old.spare < 4 }
         ensures err { OnErr result (self.new ≡ self.old) }
         ensures none_sent { OnErr result (replies.new ≡ replies.old) }
         ensures capacity { capacity_of self.old ≤ capacity_of self.new }
+        ensures no_memory { result ≡ Err StepError.Memory → WasRefused }
     {
         self.machine.room_for_frame()?;
         Ok(self.machine.full(frame, now, replies))
@@ -185,9 +191,9 @@ impl Leg {
         ensures leg { OnOk result (self.new.state ≡ after_media (media_sent self.old.state now) self.old.state media.now now) }
         ensures replies { OnOk result (replies.new ≡
             map spelling (media_frames (media_sent self.old.state now) self.old.state media.now now)) }
-        ensures tied { OnOk result (SendsAtMostOne self.old.state self.new.state) }
+        ensures extends_history { OnOk result (SendsAtMostOne self.old.state self.new.state) }
         ensures sendings { OnOk result (All (IsSending self.new.state) replies.new) }
-        ensures seen { OnOk result (IsSeenOrder kinds.Media (seen self.old.state) (seen self.new.state)) }
+        ensures refines_abstract_leg { OnOk result (IsSeenOrder kinds.Media (seen self.old.state) (seen self.new.state)) }
         ensures unrefused { OnOk result (media_refused self.old.state now ≡ None) }
         ensures refused { IfErr result (IsRefusal (media_refused self.old.state now)) }
         ensures memory { result ≡ Err OrderError.Memory → is_voice (media_sent self.old.state now) ≡ true }
@@ -196,6 +202,7 @@ impl Leg {
         ensures err { OnErr result (self.new ≡ self.old) }
         ensures none_sent { OnErr result (replies.new ≡ replies.old) }
         ensures capacity { capacity_of self.old ≤ capacity_of self.new }
+        ensures no_memory { result ≡ Err OrderError.Memory → WasRefused }
     {
         let sent = self.machine.media_sent(now)?;
         if sent == MediaSent::Voice {
@@ -221,9 +228,9 @@ impl Leg {
         requires empty { replies.old ≡ [] }
         ensures leg { OnOk result (self.new.state ≡ (order_carried self.old.state order.now now).leg) }
         ensures replies { OnOk result (replies.new ≡ (order_carried self.old.state order.now now).datagrams) }
-        ensures tied { OnOk result (SendsAtMostOne self.old.state self.new.state) }
+        ensures extends_history { OnOk result (SendsAtMostOne self.old.state self.new.state) }
         ensures sendings { OnOk result (All (IsSendingOrMini self.new.state) replies.new) }
-        ensures seen { OnOk result (IsSeenOrder (kind_of order.now) (seen self.old.state) (seen self.new.state)) }
+        ensures refines_abstract_leg { OnOk result (IsSeenOrder (kind_of order.now) (seen self.old.state) (seen self.new.state)) }
         ensures unrefused { OnOk result (order_refused self.old.state order.now now ≡ None) }
         ensures refused { IfErr result (IsRefusal (order_refused self.old.state order.now now)) }
         ensures memory { result ≡ Err OrderError.Memory → wants_memory self.old.state order.now now ≡ true }
@@ -232,6 +239,7 @@ impl Leg {
         ensures err { OnErr result (self.new ≡ self.old) }
         ensures none_sent { OnErr result (replies.new ≡ replies.old) }
         ensures capacity { capacity_of self.old ≤ capacity_of self.new }
+        ensures no_memory { result ≡ Err OrderError.Memory → WasRefused }
     {
         // A mini frame has the leg's number, which isn't 0.
         let _ = self.machine.number.get();
@@ -248,9 +256,9 @@ impl Leg {
         ensures replies { replies.new ≡ map spelling (tick_step (result == 0) self.old.state now).replies }
         ensures skipped { result ≡ (tick_step (result == 0) self.old.state now).skipped }
         ensures spare { 2 ≤ self.old.spare → result ≡ 0 }
-        ensures tied { SendsAtMostOne self.old.state self.new.state }
+        ensures extends_history { SendsAtMostOne self.old.state self.new.state }
         ensures sendings { All (IsSending self.new.state) replies.new }
-        ensures seen { IsSeenTick (seen self.old.state) (seen self.new.state) }
+        ensures refines_abstract_leg { IsSeenTick (seen self.old.state) (seen self.new.state) }
         ensures capacity { capacity_of self.old ≤ capacity_of self.new }
     {
         let grown = self.machine.grow(now);

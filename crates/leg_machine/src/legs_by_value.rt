@@ -15,6 +15,7 @@ ghost use Rattle.leg_machine.specs.Steps.{full_step};
 ghost use Rattle.leg_machine.specs.Ticks.{tick_step};
 ghost use Rattle.leg_machine.specs.Tie.{TakesTurn, SendsAtMostOne, TakesFirstTurn, HasSentAtMostOne, IsSending, IsSendingOrMini};
 ghost use Rattle.call_signals.specs.declared.stage.Stage.TheVariants as stages;
+ghost use Rattle.memory_requests.specs.Refused.{WasRefused};
 
 use crate::leg::Leg;
 use call_auth::Challenge;
@@ -55,9 +56,11 @@ impl Leg {
         ensures leg { IfOk result (λ opened. opened.0.state ≡ (open_in_step rules.now number frame.now now challenge.now).leg) }
         ensures outcome { IfOk result (λ opened. opened.1 ≡
             outcome_of (open_in_step rules.now number frame.now now challenge.now)) }
-        ensures tied { IfOk result (λ opened. TakesFirstTurn frame.now opened.0.state) }
+        ensures extends_history { IfOk result (λ opened. TakesFirstTurn frame.now opened.0.state) }
         ensures sendings { IfOk result (λ opened. All (IsSending opened.0.state) opened.1.replies) }
-        ensures seen { IfOk result (λ opened. HandsUp opened.0.state opened.1.onward (IsSeenOpening (seen opened.0.state))) }
+        ensures refines_abstract_leg { IfOk result (λ opened.
+            HandsUp opened.0.state opened.1.onward (IsSeenOpening (seen opened.0.state))) }
+        ensures no_memory { OnErr result WasRefused }
     {
         let mut replies = Replies::new();
         let (leg, heard) = Leg::open_in_into(
@@ -99,9 +102,10 @@ impl Leg {
             (open_out_step rules.now number called.now (numbered (option_copied calling.entry)) format now).leg) }
         ensures outcome { IfOk result (λ opened. opened.1 ≡
             outcome_of (open_out_step rules.now number called.now (numbered (option_copied calling.entry)) format now)) }
-        ensures tied { IfOk result (λ opened. HasSentAtMostOne opened.0.state) }
+        ensures extends_history { IfOk result (λ opened. HasSentAtMostOne opened.0.state) }
         ensures sendings { IfOk result (λ opened. All (IsSending opened.0.state) opened.1.replies) }
-        ensures seen { IfOk result (λ opened. seen opened.0.state ≡ fresh_leg stages.Waiting) }
+        ensures refines_abstract_leg { IfOk result (λ opened. seen opened.0.state ≡ fresh_leg stages.Waiting) }
+        ensures no_memory { OnErr result WasRefused }
     {
         let caller = Caller::numbered(calling);
         let mut replies = Replies::new();
@@ -132,14 +136,15 @@ impl Leg {
         requires { length frame.now.payload ≤ 1388 }
         ensures leg { OnOk result (self.new.state ≡ (full_step self.old.state frame.now now).leg) }
         ensures outcome { IfOk result (λ outcome. outcome ≡ outcome_of (full_step self.old.state frame.now now)) }
-        ensures tied { OnOk result (TakesTurn self.old.state frame.now self.new.state) }
+        ensures extends_history { OnOk result (TakesTurn self.old.state frame.now self.new.state) }
         ensures sendings { IfOk result (λ outcome. All (IsSending self.new.state) outcome.replies) }
-        ensures seen { IfOk result (λ outcome.
+        ensures refines_abstract_leg { IfOk result (λ outcome.
             HandsUp self.new.state outcome.onward (IsSeenFrame (seen self.old.state) (seen self.new.state))) }
         ensures record_full { (result ≡ Err StepError.RecordFull) ↔ (is_record_full self.old.state ≡ true) }
         ensures memory { result ≡ Err StepError.Memory → self.old.spare < 4 }
         ensures err { OnErr result (self.new ≡ self.old) }
         ensures capacity { capacity_of self.old ≤ capacity_of self.new }
+        ensures no_memory { result ≡ Err StepError.Memory → WasRefused }
     {
         let mut replies = Replies::new();
         let heard = self.full_into(frame, now, &mut replies)?;
@@ -160,9 +165,9 @@ impl Leg {
         requires { IsShortMedia order.now }
         ensures leg { OnOk result (self.new.state ≡ (order_carried self.old.state order.now now).leg) }
         ensures outcome { IfOk result (λ outcome. outcome ≡ order_outcome (order_carried self.old.state order.now now)) }
-        ensures tied { OnOk result (SendsAtMostOne self.old.state self.new.state) }
+        ensures extends_history { OnOk result (SendsAtMostOne self.old.state self.new.state) }
         ensures sendings { IfOk result (λ outcome. All (IsSendingOrMini self.new.state) outcome.replies) }
-        ensures seen { OnOk result (IsSeenOrder (kind_of order.now) (seen self.old.state) (seen self.new.state)) }
+        ensures refines_abstract_leg { OnOk result (IsSeenOrder (kind_of order.now) (seen self.old.state) (seen self.new.state)) }
         ensures unrefused { OnOk result (order_refused self.old.state order.now now ≡ None) }
         ensures refused { IfErr result (IsRefusal (order_refused self.old.state order.now now)) }
         ensures memory { result ≡ Err OrderError.Memory → wants_memory self.old.state order.now now ≡ true }
@@ -170,6 +175,7 @@ impl Leg {
         ensures wrong_stage { (result ≡ Err OrderError.WrongStage) ↔ (stage_ordered self.old.state (kind_of order.now) ≡ None) }
         ensures err { OnErr result (self.new ≡ self.old) }
         ensures capacity { capacity_of self.old ≤ capacity_of self.new }
+        ensures no_memory { result ≡ Err OrderError.Memory → WasRefused }
     {
         let mut replies = Replies::new();
         self.order_into(order, now, &mut replies)?;
@@ -186,9 +192,9 @@ impl Leg {
         ensures replies { result.replies ≡ map spelling (tick_step (result.skipped == 0) self.old.state now).replies }
         ensures skipped { result.skipped ≡ (tick_step (result.skipped == 0) self.old.state now).skipped }
         ensures spare { 2 ≤ self.old.spare → result.skipped ≡ 0 }
-        ensures tied { SendsAtMostOne self.old.state self.new.state }
+        ensures extends_history { SendsAtMostOne self.old.state self.new.state }
         ensures sendings { All (IsSending self.new.state) result.replies }
-        ensures seen { IsSeenTick (seen self.old.state) (seen self.new.state) }
+        ensures refines_abstract_leg { IsSeenTick (seen self.old.state) (seen self.new.state) }
         ensures capacity { capacity_of self.old ≤ capacity_of self.new }
     {
         let mut replies = Replies::new();

@@ -8,6 +8,7 @@ ghost use Rattle.leg_machine.specs.Leg.{first_at, local_room, noted};
 ghost use Rattle.leg_machine.specs.Openings.{leg_for_call};
 ghost use Rattle.leg_machine.specs.Replies as replies;
 ghost use Rattle.leg_machine.specs.Working as steps;
+ghost use Rattle.memory_requests.specs.Refused.{WasRefused};
 
 use call_auth::Challenge;
 use call_signals::codes::{FRAME_IAX, IAX_ACK, IAX_VNAK};
@@ -113,6 +114,7 @@ impl Machine {
         requires number { 1 ≤ number }
         ensures leg { IfOk result (λ machine. leg_of machine ≡ leg_for_call rules.now number format now) }
         ensures room { IfOk result (HasRoom 4) }
+        ensures no_memory { OnErr result WasRefused }
     {
         let mut window = Window::new(alloc, rules.window, rules.record_limit)?;
         window.reserve(4)?;
@@ -222,7 +224,7 @@ impl Machine {
     }
 
     /// Ends a closing leg that holds nothing.
-    pub fn settle(&mut self)
+    pub fn finish_closing(&mut self)
         ensures leg { leg_of self.new ≡ steps.settled (leg_of self.old) }
         ensures window { self.new.window ≡ self.old.window }
     {

@@ -5,6 +5,7 @@ ghost use Rattle.iax_frames.specs.MiniFrame.{mini_spelling};
 ghost use Rattle.call_signals.specs.Stage.{is_talking};
 ghost use Rattle.leg_machine.specs.Media as rules;
 ghost use Rattle.leg_machine.specs.OrderTable as orders;
+ghost use Rattle.memory_requests.specs.Refused.{WasRefused};
 
 use crate::machine::Machine;
 use call_signals::{OrderError, Replies};
@@ -75,6 +76,7 @@ impl Machine {
         ensures err { OnErr result (self.new ≡ self.old) }
         ensures none_sent { OnErr result (outs.new ≡ outs.old) }
         ensures capacity { capacity_of (whole_leg self.old) ≤ capacity_of (whole_leg self.new) }
+        ensures no_memory { result ≡ Err OrderError.Memory → WasRefused }
     {
         self.room_for_sending(self.local_room())?;
         let present = self.present(now);

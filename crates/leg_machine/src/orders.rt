@@ -2,6 +2,7 @@
 ghost use Rattle.std.specs.Prelude.{◌≡◌, ◌+◌, ◌<◌, ◌≤◌, true, [], IfSome, IfNone, None, Some, Err, IfErr, OnOk, OnErr};
 ghost use Rattle.seq_window.specs.Window.{held_count, entry_count};
 ghost use Rattle.leg_machine.specs.OrderTable as orders;
+ghost use Rattle.memory_requests.specs.Refused.{WasRefused};
 
 use crate::machine::Machine;
 use crate::media::MediaSent;
@@ -114,6 +115,7 @@ impl Machine {
         ensures spare { result ≡ Err OrderError.Memory → self.old.window.spare ≡ 0 }
         ensures err { OnErr result (self.new ≡ self.old) }
         ensures capacity { capacity_of (whole_leg self.old) ≤ capacity_of (whole_leg self.new) }
+        ensures no_memory { result ≡ Err OrderError.Memory → WasRefused }
     {
         if let Some(refusal) = self.sending_refused(most) {
             return Err(refusal);
@@ -151,6 +153,7 @@ impl Machine {
         ensures err { OnErr result (self.new ≡ self.old) }
         ensures none_sent { OnErr result (outs.new ≡ outs.old) }
         ensures capacity { capacity_of (whole_leg self.old) ≤ capacity_of (whole_leg self.new) }
+        ensures no_memory { result ≡ Err OrderError.Memory → WasRefused }
     {
         let Some(row) = self.order_row(order) else {
             return Err(OrderError::WrongStage);
@@ -196,6 +199,7 @@ impl Machine {
         ensures err { OnErr result (self.new ≡ self.old) }
         ensures none_sent { OnErr result (outs.new ≡ outs.old) }
         ensures capacity { capacity_of (whole_leg self.old) ≤ capacity_of (whole_leg self.new) }
+        ensures no_memory { result ≡ Err OrderError.Memory → WasRefused }
     {
         match order {
             Order::Media(media) => match self.media_sent(now)? {

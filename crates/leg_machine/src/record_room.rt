@@ -2,6 +2,7 @@
 ghost use Rattle.std.specs.Prelude.{◌≡◌, ◌<◌, ◌≤◌, ◌↔◌, true, Err, OnOk, OnErr};
 ghost use Rattle.leg_machine.specs.Leg.{is_record_full, is_short_of_entries, is_short_of_octets, is_challenged};
 ghost use Rattle.leg_machine.specs.Leg.{has_heard_enough, is_overdue};
+ghost use Rattle.memory_requests.specs.Refused.{WasRefused};
 
 use crate::machine::Machine;
 use call_signals::{Stage, StepError};
@@ -85,6 +86,7 @@ impl Machine {
         ensures memory { result ≡ Err StepError.Memory → self.old.window.spare < 4 }
         ensures err { OnErr result (self.new ≡ self.old) }
         ensures capacity { capacity_of (whole_leg self.old) ≤ capacity_of (whole_leg self.new) }
+        ensures no_memory { result ≡ Err StepError.Memory → WasRefused }
     {
         if self.is_record_full() {
             return Err(StepError::RecordFull);

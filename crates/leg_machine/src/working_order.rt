@@ -232,7 +232,7 @@ impl Machine {
     {
         self.learn(frame.source());
         let counts = self.acknowledge(frame.iseqno());
-        self.settle();
+        self.finish_closing();
         counts
     }
 

@@ -23,7 +23,8 @@ impl<L: Ledger> Model for Supply<L> {
 
     ghost view = { λ s. record { shares = s.shares; amount = s.amount } };
 
-    ghost invariant = { λ s. ((arc_value s.total).parts ≡ s.shares) × (s.shares ≡ L.parts) × ((arc_value s.total).amount ≡ s.amount) ×
+    ghost invariant = { λ s. ((arc_value s.total).parts ≡ s.shares) × (s.shares ≡ L.parts) ×
+        ((arc_value s.total).amount ≡ s.amount) ×
         (0 < s.shares) };
 }
 

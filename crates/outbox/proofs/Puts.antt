@@ -1,6 +1,7 @@
 -- Datagrams that are put into an outbox one after another.
 use native.Mathlib.Omega.{arith}
-use Rattle.std.proofs.Common.{◌≡◌, ◌<◌, ◌≤◌, ℕ, zero, suc, ◌+◌, List, [], ◌∷◌, ◌++◌, length, take, drop, slice_get, slice_index, Some}
+use Rattle.std.proofs.Common.{◌≡◌, ◌<◌, ◌≤◌, ℕ, zero, suc, ◌+◌, List, [], ◌∷◌, ◌++◌, length, take, drop, slice_get, slice_index}
+use Rattle.std.proofs.Common.{Some}
 use Rattle.std.proofs.Common.{ap, ◌∙◌, sym, subst, refl}
 use Rattle.std.proofs.Math.Seq.{take-suc}
 use Rattle.std.proofs.lemmas.Option.{slice_get_within, get_or_from_slice_get}
@@ -49,9 +50,11 @@ put_short outbox datagrams short = λ i. record {
 }
 
 -- a datagram that fits
-pub put_fits : (outbox : OutboxView) (out : List ℕ) → length outbox.waiting < 256 → extended outbox (out ∷ []) ≡ put outbox (out ∷ [])
+pub put_fits : (outbox : OutboxView) (out : List ℕ) → length outbox.waiting < 256
+    → extended outbox (out ∷ []) ≡ put outbox (out ∷ [])
 put_fits outbox out room =
-    put_short outbox (out ∷ []) (subst (λ n. n ≤ 256) (sym (length-append outbox.waiting (out ∷ []))) (fits (length outbox.waiting) room))
+    put_short outbox (out ∷ []) (subst (λ n. n ≤ 256) (sym (length-append outbox.waiting (out ∷ [])))
+    (fits (length outbox.waiting) room))
 
 -- a datagram that doesn't
 pub put_full : (outbox : OutboxView) (out : List ℕ) → length outbox.waiting ≤ 256 → 256 ≤ length outbox.waiting

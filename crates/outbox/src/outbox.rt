@@ -1,13 +1,16 @@
 //! The datagrams that wait to be sent to a peer.
-ghost use Rattle.std.specs.Prelude.{◌≡◌, ◌+◌, ◌<◌, ◌≤◌, ◌↔◌, IsTrue, [], ◌∷◌, ◌++◌, length, take, drop, vec_capacity, IfOk, MatchOption};
+ghost use Rattle.std.specs.Prelude.{◌≡◌, ◌+◌, ◌<◌, ◌≤◌, ◌↔◌, IsTrue, [], ◌∷◌, ◌++◌, length, take, drop, vec_capacity};
+ghost use Rattle.std.specs.Prelude.{IfOk, MatchOption, OnErr};
 ghost use Rattle.std.specs.Bool.{OnTrue, OnFalse};
 ghost use Rattle.iax_frames.specs.Datagram.{IsFrame};
 ghost use Rattle.iax_frames.specs.MiniFrame.{mini_spelling};
 ghost use Rattle.outbox.specs.Outbox.{put, no_losses};
+ghost use Rattle.memory_requests.specs.Refused.{WasRefused};
 
 use crate::losses::Losses;
 use circular_buffer::HeapCircularBuffer;
 use iax_frames::{CallNumber, Out, mini_head};
+use memory_requests::{ring_with_capacity, with_capacity};
 use std::alloc::{AllocError, Global};
 use std::marker::Model;
 
@@ -51,12 +54,13 @@ impl Model for Outbox {
 impl Outbox {
     /// Returns an empty outbox, with room for 256 datagrams of 1,400 octets. Returns `Err` only if memory was refused.
     pub fn new(alloc: Global) -> Result<Outbox, AllocError>
-        ensures { IfOk result (λ outbox. outbox ≡ record { waiting = []; lost = no_losses }) }
+        ensures empty { IfOk result (λ outbox. outbox ≡ record { waiting = []; lost = no_losses }) }
+        ensures no_memory { OnErr result WasRefused }
     {
         Ok(Outbox {
-            octets: Vec::with_capacity(alloc, CAPACITY)?,
+            octets: with_capacity(alloc, CAPACITY)?,
             taken: 0,
-            lens: HeapCircularBuffer::with_capacity(alloc, MAX_DATAGRAMS)?,
+            lens: ring_with_capacity(alloc, MAX_DATAGRAMS)?,
             lost: Losses::default(),
         })
     }

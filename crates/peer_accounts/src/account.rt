@@ -5,7 +5,7 @@ ghost use Rattle.peer_accounts.specs.Accounts.{no_accounts, shown, carried, carr
 ghost use Rattle.peer_accounts.specs.Grants.{granted};
 
 use crate::closed_account::ClosedAccount;
-use crate::naming::Naming;
+use crate::ledger_set::LedgerSet;
 use crate::pass::Pass;
 use crate::sums::Sums;
 use leg_machine::Signal;
@@ -27,7 +27,7 @@ pub enum Carried {
 
 /// The accounts of one peer. Contracts see their sums.
 #[derive(Drop)]
-pub struct Account<J: Naming> {
+pub struct Account<J: LedgerSet> {
     pub(crate) octets: Share<J::Octets>,
     pub(crate) steps: Share<J::Steps>,
     // The octets that may still be accepted from the peer.
@@ -36,7 +36,7 @@ pub struct Account<J: Naming> {
     pub(crate) naming: PhantomData<J>,
 }
 
-impl<J: Naming> Model for Account<J> {
+impl<J: LedgerSet> Model for Account<J> {
     ghost use Rattle.std.specs.Prelude.{◌≡◌, ◌+◌, ◌<◌, ◌≤◌, ◌^◌};
     ghost use Rattle.peer_accounts.specs.Accounts.{Accounts};
 
@@ -50,7 +50,7 @@ impl<J: Naming> Model for Account<J> {
         × (s.steps + s.sums.steps ≡ J.first_steps) × (J.first_octets < 2 ^ 64) × (J.first_steps < 2 ^ 64) };
 }
 
-impl<J: Naming> Account<J> {
+impl<J: LedgerSet> Account<J> {
     /// Returns the accounts of a peer before its first step, with the first shares of a peer.
     pub fn new(octets: Share<J::Octets>, steps: Share<J::Steps>) -> Account<J>
         requires octets { octets ≡ J.first_octets }

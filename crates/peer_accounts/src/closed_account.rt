@@ -3,20 +3,20 @@ ghost use Rattle.std.specs.Prelude.{◌≡◌, ◌+◌, ◌≤◌};
 ghost use Rattle.peer_accounts.specs.Accounts.{carried, shown};
 
 use crate::account::Account;
-use crate::naming::Naming;
+use crate::ledger_set::LedgerSet;
 use crate::sums::Sums;
 use media_ledger::Share;
 use std::marker::{Model, PhantomData};
 
 /// The accounts of a peer that gave its shares up. Contracts see their sums.
 #[derive(Drop)]
-pub struct ClosedAccount<J: Naming> {
+pub struct ClosedAccount<J: LedgerSet> {
     pub(crate) unspent: u64,
     pub(crate) sums: Sums,
     pub(crate) naming: PhantomData<J>,
 }
 
-impl<J: Naming> Model for ClosedAccount<J> {
+impl<J: LedgerSet> Model for ClosedAccount<J> {
     ghost use Rattle.std.specs.Prelude.{◌≡◌, ◌+◌, ◌<◌, ◌≤◌, ◌^◌};
     ghost use Rattle.peer_accounts.specs.Accounts.{Accounts};
 
@@ -28,7 +28,7 @@ impl<J: Naming> Model for ClosedAccount<J> {
         × (s.sums.steps ≤ J.first_steps) × (J.first_octets < 2 ^ 64) × (J.first_steps < 2 ^ 64) };
 }
 
-impl<J: Naming> ClosedAccount<J> {
+impl<J: LedgerSet> ClosedAccount<J> {
     /// Returns the sums of the accounts, as they were when the shares were given up.
     pub fn sums(&self) -> Sums
         ensures sums { result ≡ shown self.now }

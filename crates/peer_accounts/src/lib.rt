@@ -3,14 +3,14 @@
 
 mod account;
 mod closed_account;
-mod naming;
+mod ledger_set;
 mod onwards;
 mod pass;
 mod sums;
 
 pub use account::{Account, Carried};
 pub use closed_account::ClosedAccount;
-pub use naming::{Naming, Service};
+pub use ledger_set::{LedgerSet, Service};
 pub use onwards::{Offer, Onwards};
 pub use pass::Pass;
 pub use sums::Sums;

@@ -1,9 +1,11 @@
 //! The signals that the legs of a peer hand up in one step.
 ghost use Rattle.std.specs.Prelude.{◌≡◌, ◌≤◌, ◌+◌, ◌<◌, ◌++◌, ◌∷◌, [], ◌==◌, length, slice_get, option_copied, Option, None};
-ghost use Rattle.std.specs.Prelude.{Some, OnOk, OnErr};
+ghost use Rattle.std.specs.Prelude.{Some, OnOk, OnErr, max};
+ghost use Rattle.memory_requests.specs.Refused.{WasRefused};
 
 use call_book::LegName;
 use leg_machine::{Caller, ElementText, Format, Formats, Signal};
+use memory_requests::reserve;
 use std::alloc::{AllocError, Global};
 use std::marker::Model;
 
@@ -76,9 +78,11 @@ impl Onwards {
         ensures signals { self.new.signals ≡ self.old.signals }
         ensures offer { self.new.offer ≡ self.old.offer }
         ensures room { OnOk result (signals ≤ self.new.room) }
+        ensures full { OnErr result (self.old.offer ≡ None → self.old.room < max 1 signals) }
+        ensures no_memory { OnErr result WasRefused }
     {
-        self.signals.try_reserve(signals)?;
-        self.offers.try_reserve(1)
+        reserve(&mut self.signals, signals)?;
+        reserve(&mut self.offers, 1)
     }
 
     /// Returns the number of signals.

@@ -2,7 +2,7 @@
 ghost use Rattle.std.specs.Prelude.{◌≡◌};
 ghost use Rattle.peer_accounts.specs.HandedUp.{IsNothing};
 
-use crate::naming::Naming;
+use crate::ledger_set::LedgerSet;
 use crate::onwards::Onwards;
 use media_ledger::Share;
 use std::alloc::Global;
@@ -12,13 +12,13 @@ use std::marker::Model;
 ///
 /// It also keeps the memory of a list for the signals of steps, so that a step needs no new one.
 #[derive(Drop)]
-pub struct Pass<J: Naming> {
+pub struct Pass<J: LedgerSet> {
     pub(crate) octets: Share<J::Octets>,
     pub(crate) steps: Share<J::Steps>,
     onwards: Option<Onwards>,
 }
 
-impl<J: Naming> Model for Pass<J> {
+impl<J: LedgerSet> Model for Pass<J> {
     ghost use Rattle.peer_accounts.specs.Accounts.{Credit};
 
     ghost Value = { Credit };
@@ -26,7 +26,7 @@ impl<J: Naming> Model for Pass<J> {
     ghost view = { λ p. record { octets = p.octets; steps = p.steps } };
 }
 
-impl<J: Naming> Pass<J> {
+impl<J: LedgerSet> Pass<J> {
     /// Returns a pass with this credit.
     pub fn new(octets: Share<J::Octets>, steps: Share<J::Steps>) -> Pass<J>
         ensures octets { result.octets ≡ octets }

@@ -1,5 +1,6 @@
 -- The leg that has a number.
-use Rattle.std.proofs.Common.{◌≡◌, ◌≢◌, ℕ, zero, suc, ◌+◌, ◌-◌, ◌≤◌, inl, inr, true, List, [], ◌∷◌, Option, Some, None, IfSome, IsNone, slice_get, length, get_or, ◌<◌, refl, sym, ap, ◌∙◌, arith}
+use Rattle.std.proofs.Common.{◌≡◌, ◌≢◌, ℕ, zero, suc, ◌+◌, ◌-◌, ◌≤◌, inl, inr, true, List, [], ◌∷◌, Option, Some, None, IfSome}
+use Rattle.std.proofs.Common.{IsNone, slice_get, length, get_or, ◌<◌, refl, sym, ap, ◌∙◌, arith}
 use Rattle.std.proofs.lemmas.Bool.{cases_Bool, eqb-true, eq-eqb}
 use Rattle.std.proofs.lemmas.Option.{slice_get_read}
 use Rattle.std.proofs.lemmas.List.{get_or_past}
@@ -14,7 +15,8 @@ is_remote_from : (o : Option ℕ) (remote : ℕ) → o ≡ Some remote → is_re
 is_remote_from None remote is = cc
 is_remote_from (Some number) remote is = eq-eqb number remote (cc)
 
-has_from : (o : Option NamedLeg) (named : NamedLeg) (remote : ℕ) → o ≡ Some named → named.leg.remote ≡ Some remote → has_remote o remote ≡ true
+has_from : (o : Option NamedLeg) (named : NamedLeg) (remote : ℕ) → o ≡ Some named → named.leg.remote ≡ Some remote
+    → has_remote o remote ≡ true
 has_from None named remote at is = cc
 has_from (Some other) named remote at is = let same : other ≡ named = cc in is_remote_from other.leg.remote remote (rw same is)
 
@@ -23,22 +25,28 @@ remote_from_test None remote test = cc
 remote_from_test (Some number) remote test = ap Some (eqb-true number remote test)
 
 -- the leg among these that has a remote number which no other has
-first_found : (places : List (Option NamedLeg)) (place remote : ℕ) (named : NamedLeg) → slice_get places place ≡ Some (Some named) → named.leg.remote ≡ Some remote
-    → ((other : ℕ) (leg : NamedLeg) → slice_get places other ≡ Some (Some leg) → leg.leg.remote ≡ Some remote → other ≡ place) → first_remote places remote ≡ Some named
+first_found : (places : List (Option NamedLeg)) (place remote : ℕ) (named : NamedLeg) → slice_get places place ≡ Some (Some named)
+    → named.leg.remote ≡ Some remote
+    → ((other : ℕ) (leg : NamedLeg) → slice_get places other ≡ Some (Some leg) → leg.leg.remote ≡ Some remote → other ≡ place)
+    → first_remote places remote ≡ Some named
 first_found [] place remote named at is only = cc
 first_found (o ∷ places) zero remote named at is only =
     let here : o ≡ Some named = cc in rw (has_from o named remote here is) here
 first_found (None ∷ places) (suc place) remote named at is only =
-    first_found places place remote named at is (λ other leg at_other is_other. let e : suc other ≡ suc place = only (suc other) leg at_other is_other in omega arith)
+    first_found places place remote named at is (λ other leg at_other is_other. let e : suc other ≡ suc place = only (suc other)
+    leg at_other is_other in omega arith)
 first_found (Some first ∷ places) (suc place) remote named at is only =
     elim (cases_Bool (is_remote first.leg.remote remote)) [
-      | inl e ↦ let never : zero ≡ suc place = only zero first refl (remote_from_test first.leg.remote remote e) in absurd (omega arith)
-      | inr e ↦ rw e (first_found places place remote named at is (λ other leg at_other is_other. let same : suc other ≡ suc place = only (suc other) leg at_other is_other in omega arith))
+      | inl e ↦ let never : zero ≡ suc place = only zero first refl (remote_from_test first.leg.remote remote e) in
+          absurd (omega arith)
+      | inr e ↦ rw e (first_found places place remote named at is (λ other leg at_other is_other. let same : suc other
+          ≡ suc place = only (suc other) leg at_other is_other in omega arith))
     ]
 
 -- none of these has the remote number
 first_none : (places : List (Option NamedLeg)) (remote : ℕ)
-    → ((place : ℕ) (named : NamedLeg) → slice_get places place ≡ Some (Some named) → named.leg.remote ≢ Some remote) → first_remote places remote ≡ None
+    → ((place : ℕ) (named : NamedLeg) → slice_get places place ≡ Some (Some named) → named.leg.remote ≢ Some remote)
+    → first_remote places remote ≡ None
 first_none [] remote none = refl
 first_none (None ∷ places) remote none = first_none places remote (λ place. none (suc place))
 first_none (Some first ∷ places) remote none =
@@ -48,7 +56,8 @@ first_none (Some first ∷ places) remote none =
     ]
 
 -- if none is found, none of these has the remote number
-pub none_first : (places : List (Option NamedLeg)) (place remote : ℕ) (named : NamedLeg) → first_remote places remote ≡ None → slice_get places place ≡ Some (Some named) → named.leg.remote ≢ Some remote
+pub none_first : (places : List (Option NamedLeg)) (place remote : ℕ) (named : NamedLeg) → first_remote places remote ≡ None
+    → slice_get places place ≡ Some (Some named) → named.leg.remote ≢ Some remote
 none_first [] place remote named none at = cc
 none_first (o ∷ places) zero remote named none at = λ is.
     let here : o ≡ Some named = cc in
@@ -66,7 +75,8 @@ none_first (Some first ∷ places) (suc place) remote named none at =
 module _ (legs : PeerLegs) (index : List (Option ℕ)) (is : IsIndex legs index) (remote : ℕ) where
   remote_found : (place : ℕ) (has : HasRemote legs place remote) → leg_of_remote legs remote ≡ Some has.named
   remote_found place has = first_found legs.places place remote has.named has.at has.is
-      (λ other leg at_other is_other. apart-index legs index is other place remote (record { named = leg; at = at_other; is = is_other }) has)
+      (λ other leg at_other is_other. apart-index legs index is other place remote
+      (record { named = leg; at = at_other; is = is_other }) has)
 
   found_in_index : (number : ℕ) → slice_get index remote ≡ Some (Some number) → leg_at legs number ≡ leg_of_remote legs remote
   found_in_index number found =
@@ -75,15 +85,18 @@ module _ (legs : PeerLegs) (index : List (Option ℕ)) (is : IsIndex legs index)
 
   none_in_index : slice_get index remote ≡ Some None → leg_of_remote legs remote ≡ None
   none_in_index none = first_none legs.places remote (λ place named at is_remote.
-      let listed : slice_get index remote ≡ Some (Some (legs.first + place)) = is.listed place remote (record { named = named; at = at; is = is_remote }) in
+      let listed : slice_get index remote ≡ Some (Some (legs.first + place)) =
+      is.listed place remote (record { named = named; at = at; is = is_remote }) in
       cc)
 
   -- the answer of the array
-  pub found_or_none : (result : Option ℕ) → slice_get index remote ≡ Some result → IfSome result (λ number. leg_at legs number ≡ leg_of_remote legs remote)
+  pub found_or_none : (result : Option ℕ) → slice_get index remote ≡ Some result
+      → IfSome result (λ number. leg_at legs number ≡ leg_of_remote legs remote)
   found_or_none None at = tt
   found_or_none (Some number) at = found_in_index number at
 
-  pub none_or_found : (result : Option ℕ) → slice_get index remote ≡ Some result → (IsNone result → leg_of_remote legs remote ≡ None) × (leg_of_remote legs remote ≡ None → IsNone result)
+  pub none_or_found : (result : Option ℕ) → slice_get index remote ≡ Some result
+      → (IsNone result → leg_of_remote legs remote ≡ None) × (leg_of_remote legs remote ≡ None → IsNone result)
   none_or_found None at = (λ _. none_in_index at, λ _. refl)
   none_or_found (Some number) at =
       let listed = is.right remote number at in
@@ -91,7 +104,8 @@ module _ (legs : PeerLegs) (index : List (Option ℕ)) (is : IsIndex legs index)
 
 -- ---- the result of reading a place
 
-pub leg_read : (legs value : PeerLegs) (place : ℕ) (o : Option NamedLeg) (named : NamedLeg) → legs ≡ value → place < length value.places → o ≡ get_or legs.places place o → o ≡ Some named
+pub leg_read : (legs value : PeerLegs) (place : ℕ) (o : Option NamedLeg) (named : NamedLeg) → legs ≡ value
+    → place < length value.places → o ≡ get_or legs.places place o → o ≡ Some named
     → slice_get legs.places place ≡ Some (Some named)
 leg_read legs value place o named view within read is =
     slice_get_read legs.places (length value.places) place o (ap (λ v. length v.places) (sym view)) within read ∙ ap Some is
@@ -103,10 +117,13 @@ pub record IsFound (legs value : PeerLegs) (place number : ℕ) (named : NamedLe
   pub leg_is : leg_at value number ≡ Some named
   pub only : (other : NamedLeg) → leg_at value number ≡ Some other → other ≡ named
 
-pub found : {legs value : PeerLegs} {place : ℕ} (number : ℕ) {o : Option NamedLeg} {there named : NamedLeg} → legs ≡ value → place ≡ number - value.first → place < length value.places
-    → filled (slice_get value.places place) ≡ leg_at value number → o ≡ get_or legs.places place o → o ≡ Some there → named ≡ there → IsFound legs value place number named
+pub found : {legs value : PeerLegs} {place : ℕ} (number : ℕ) {o : Option NamedLeg} {there named : NamedLeg} → legs ≡ value
+    → place ≡ number - value.first → place < length value.places
+    → filled (slice_get value.places place) ≡ leg_at value number → o ≡ get_or legs.places place o → o ≡ Some there
+    → named ≡ there → IsFound legs value place number named
 found {legs} {value} {place} number {o} {there} {named} view is_place within is_leg read is same =
-    let at : slice_get legs.places place ≡ Some (Some named) = leg_read legs value place o named view within read (is ∙ ap Some (sym same)) in
+    let at : slice_get legs.places place ≡ Some (Some named) = leg_read legs value place o named view within read
+    (is ∙ ap Some (sym same)) in
     let at_value : slice_get value.places place ≡ Some (Some named) = ap (λ v. slice_get v.places place) (sym view) ∙ at in
     let leg : leg_at value number ≡ Some named = sym is_leg ∙ ap filled at_value in
     let first : legs.first ≡ value.first = ap (λ v. v.first) view in
@@ -123,11 +140,14 @@ pub record IsFoundAt (legs value : PeerLegs) (place : ℕ) (named : NamedLeg) : 
   pub leg_is : filled (slice_get value.places place) ≡ Some named
   pub only : (other : NamedLeg) → filled (slice_get value.places place) ≡ Some other → other ≡ named
 
-pub found_at : (legs value : PeerLegs) (place : ℕ) (o : Option NamedLeg) (there named : NamedLeg) → legs ≡ value → place < length legs.places → o ≡ get_or legs.places place o → o ≡ Some there
+pub found_at : (legs value : PeerLegs) (place : ℕ) (o : Option NamedLeg) (there named : NamedLeg) → legs ≡ value
+    → place < length legs.places → o ≡ get_or legs.places place o → o ≡ Some there
     → named ≡ there → IsFoundAt legs value place named
 found_at legs value place o there named view within read is same =
-    let at : slice_get legs.places place ≡ Some (Some named) = leg_read legs legs place o named refl within read (is ∙ ap Some (sym same)) in
-    let leg : filled (slice_get value.places place) ≡ Some named = ap (λ v. filled (slice_get v.places place)) (sym view) ∙ ap filled at in
+    let at : slice_get legs.places place ≡ Some (Some named) = leg_read legs legs place o named refl within read
+    (is ∙ ap Some (sym same)) in
+    let leg : filled (slice_get value.places place) ≡ Some named = ap (λ v. filled (slice_get v.places place)) (sym view)
+    ∙ ap filled at in
     record { at = at; leg_is = leg; only = λ other e. let both : Some other ≡ Some named = sym e ∙ leg in cc }
 
 filled-get_or : (places : List (Option NamedLeg)) (place : ℕ) → filled (slice_get places place) ≡ get_or places place None
@@ -135,16 +155,20 @@ filled-get_or [] place = refl
 filled-get_or (o ∷ places) zero = refl
 filled-get_or (o ∷ places) (suc place) = filled-get_or places place
 
-none_from_get_or : (places : List (Option NamedLeg)) (place : ℕ) → get_or places place None ≡ None → (named : NamedLeg) → filled (slice_get places place) ≡ Some named → ⊥
+none_from_get_or : (places : List (Option NamedLeg)) (place : ℕ) → get_or places place None ≡ None → (named : NamedLeg)
+    → filled (slice_get places place) ≡ Some named → ⊥
 none_from_get_or places place none named e = let both : None ≡ Some named = sym none ∙ sym (filled-get_or places place) ∙ e in cc
 
 -- there is no leg at a place past the end
-pub none_past : (legs value : PeerLegs) (place : ℕ) → legs ≡ value → length legs.places ≤ place → (named : NamedLeg) → filled (slice_get value.places place) ≡ Some named → ⊥
+pub none_past : (legs value : PeerLegs) (place : ℕ) → legs ≡ value → length legs.places ≤ place → (named : NamedLeg)
+    → filled (slice_get value.places place) ≡ Some named → ⊥
 none_past legs value place view past =
-    none_from_get_or value.places place (ap (λ v. get_or v.places place None) (sym view) ∙ get_or_past legs.places place None past)
+    none_from_get_or value.places place (ap (λ v. get_or v.places place None) (sym view) ∙ get_or_past legs.places place None
+    past)
 
 -- there is no leg at a place that was read as empty
-pub none_read : (legs value : PeerLegs) (place : ℕ) (o : Option NamedLeg) → legs ≡ value → o ≡ get_or legs.places place o → o ≡ None
+pub none_read : (legs value : PeerLegs) (place : ℕ) (o : Option NamedLeg) → legs ≡ value → o ≡ get_or legs.places place o
+    → o ≡ None
     → (named : NamedLeg) → filled (slice_get value.places place) ≡ Some named → ⊥
 none_read legs value place o view read is =
     none_from_get_or value.places place

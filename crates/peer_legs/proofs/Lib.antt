@@ -8,3 +8,4 @@ pub mod NextLegs
 pub mod PlaceLaws
 pub mod RuleChanges
 pub mod SameCall
+pub mod Sending

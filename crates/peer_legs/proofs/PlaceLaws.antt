@@ -1,5 +1,6 @@
 -- The laws of legs by their local numbers: the leg in the list of places is found under its number, also after a write.
-use Rattle.std.proofs.Common.{◌≡◌, ◌≢◌, ℕ, zero, suc, ◌+◌, ◌-◌, ◌<◌, ◌≤◌, nat_le, inl, inr, true, List, [], ◌∷◌, length, Option, Some, None, slice_get, slice_set, refl, ap, arith}
+use Rattle.std.proofs.Common.{◌≡◌, ◌≢◌, ℕ, zero, suc, ◌+◌, ◌-◌, ◌<◌, ◌≤◌, nat_le, inl, inr, true, List, [], ◌∷◌, length, Option}
+use Rattle.std.proofs.Common.{Some, None, slice_get, slice_set, refl, ap, arith}
 use Rattle.std.proofs.lemmas.Bool.{cases_Bool, leb-true, le-leb}
 use Rattle.peer_legs.specs.Legs.{NamedLeg, PeerLegs, filled, leg_at, with_place}
 
@@ -43,7 +44,8 @@ stands_at legs number named is = elim (cases_Bool (nat_le legs.first number)) [
   | inr e ↦ let none : None ≡ Some named = rw e at is in cc
 ]
 
-pub leg_at_place : (legs : PeerLegs) (number place : ℕ) (o : Option NamedLeg) → number ≡ legs.first + place → slice_get legs.places place ≡ Some o → leg_at legs number ≡ o
+pub leg_at_place : (legs : PeerLegs) (number place : ℕ) (o : Option NamedLeg) → number ≡ legs.first + place
+    → slice_get legs.places place ≡ Some o → leg_at legs number ≡ o
 leg_at_place legs number place o is at =
     let there : number - legs.first ≡ place = omega arith in
     let within : nat_le legs.first number ≡ true = le-leb legs.first number (omega arith) in
@@ -56,7 +58,8 @@ in_place : (first number count : ℕ) → first ≤ number → number < first + 
 in_place first number count le lt = omega arith
 
 -- the leg put under a number is found there
-pub placed_there : (legs : PeerLegs) (number : ℕ) (place : Option NamedLeg) → legs.first ≤ number → number < legs.first + length legs.places
+pub placed_there : (legs : PeerLegs) (number : ℕ) (place : Option NamedLeg) → legs.first ≤ number
+    → number < legs.first + length legs.places
     → leg_at (with_place legs number place) number ≡ place
 placed_there legs number place first within =
     leg_at_place (with_place legs number place) number (number - legs.first) place (back legs.first number first)

@@ -1,5 +1,6 @@
 -- A step of a leg keeps the leg's rules and its numbers: its own always, the other side's once it is known.
-use Rattle.std.proofs.Common.{◌≡◌, ℕ, zero, suc, ◌⊎◌, inl, inr, Bool, true, false, ◌&&◌, ◌==◌, cond, if◌then◌else◌, List, Option, Some, None, unwrap_or, refl, ◌∙◌}
+use Rattle.std.proofs.Common.{◌≡◌, ℕ, zero, suc, ◌⊎◌, inl, inr, Bool, true, false, ◌&&◌, ◌==◌, cond, if◌then◌else◌, List, Option}
+use Rattle.std.proofs.Common.{Some, None, unwrap_or, refl, ◌∙◌}
 use Rattle.iax_frames.specs.FullFrame.{FullFrame}
 use Rattle.seq_window.specs.declared.judgements.Acknowledged.{Acknowledged}
 use Rattle.seq_window.specs.declared.judgements.Received.{Received}
@@ -13,11 +14,14 @@ use Rattle.leg_machine.specs.Leg.{LegState, entered, staged, failed, must_end, e
 use Rattle.leg_machine.specs.Media.{after_media, media_sent}
 use Rattle.leg_machine.specs.Message.{message_of, is_inval, is_vnak}
 use Rattle.leg_machine.specs.OrderTable.{order_row, row_carried, order_carried}
-use Rattle.leg_machine.specs.Steps.{Step, nothing_sent, answer_step, oldest_step, invalidated, resend_step, taken, replied, taken_step, asking, not_asking, judged_step, numbered_step, vnak_step, prepared, inval_step, message_step, full_step}
+use Rattle.leg_machine.specs.Steps.{Step, nothing_sent, answer_step, oldest_step, invalidated, resend_step, taken, replied}
+use Rattle.leg_machine.specs.Steps.{taken_step, asking, not_asking, judged_step, numbered_step, vnak_step, prepared, inval_step}
+use Rattle.leg_machine.specs.Steps.{message_step, full_step}
 use Rattle.leg_machine.specs.Stage.{is_closing, is_ended}
 use Rattle.leg_machine.specs.Ticks.{Tick, quiet, hang_up_step, ping_step, last_step, due_frames, tick_step}
 use Rattle.leg_machine.specs.Tries.{Tried, tries, one_try, after_try}
-use Rattle.leg_machine.specs.Working.{learnt, settled, acknowledged, counts, wants_vnak, end_noted, brings_oldest, vnak_noted, heeds_inval}
+use Rattle.leg_machine.specs.Working.{learnt, settled, acknowledged, counts, wants_vnak, end_noted, brings_oldest, vnak_noted}
+use Rattle.leg_machine.specs.Working.{heeds_inval}
 use Rattle.call_signals.specs.declared.effects.Answering.{Answering}
 use Rattle.call_signals.specs.declared.effects.Answering.TheVariants.{Acknowledged as Acks, Answered, Silent}
 use Rattle.call_signals.specs.declared.effects.Effect.{Effect}
@@ -74,30 +78,60 @@ same_marked : (leg : LegState) (mark : Mark) → IsSameCall leg (marked leg mark
 same_marked leg Nothing = record { number = refl; remote = refl; ruled = record { rules = refl; width = refl; limit = refl } }
 same_marked leg Quelches = record { number = refl; remote = refl; ruled = record { rules = refl; width = refl; limit = refl } }
 same_marked leg Unquelches = record { number = refl; remote = refl; ruled = record { rules = refl; width = refl; limit = refl } }
-same_marked leg Authenticates = record { number = refl; remote = refl; ruled = record { rules = refl; width = refl; limit = refl } }
+same_marked leg Authenticates = record {
+  number = refl;
+  remote = refl;
+  ruled = record {
+    rules = refl;
+    width = refl;
+    limit = refl;
+  };
+}
 
-same_taken : (effect : Effect) (leg : LegState) (frame : FullFrame) (message : Message) (now : ℕ) → IsSameCall leg (taken effect leg frame message now)
+same_taken : (effect : Effect) (leg : LegState) (frame : FullFrame) (message : Message) (now : ℕ)
+    → IsSameCall leg (taken effect leg frame message now)
 same_taken effect leg frame message now =
-    let marks = same_marked (entered (end_noted leg effect.stage frame message) effect.stage now) effect.mark in record { number = marks.number; remote = marks.remote; ruled = record { rules = marks.ruled.rules; width = marks.ruled.width; limit = marks.ruled.limit } }
+    let marks = same_marked (entered (end_noted leg effect.stage frame message) effect.stage now) effect.mark in
+    record {
+      number = marks.number;
+      remote = marks.remote;
+      ruled = record {
+        rules = marks.ruled.rules;
+        width = marks.ruled.width;
+        limit = marks.ruled.limit;
+      };
+    }
 
 same_replied : (leg : LegState) (now : ℕ) (answer : Answering) → IsSameCall leg (replied leg now answer)
-same_replied leg now (Answered reply) = record { number = refl; remote = refl; ruled = record { rules = refl; width = refl; limit = refl } }
+same_replied leg now (Answered reply) = record {
+  number = refl;
+  remote = refl;
+  ruled = record {
+    rules = refl;
+    width = refl;
+    limit = refl;
+  };
+}
 same_replied leg now Acks = same leg
 same_replied leg now Silent = same leg
 
-same_taken_step : (effect : Effect) (leg : LegState) (frame : FullFrame) (message : Message) (now : ℕ) → IsSameCall leg (taken_step effect leg frame message now).leg
+same_taken_step : (effect : Effect) (leg : LegState) (frame : FullFrame) (message : Message) (now : ℕ)
+    → IsSameCall leg (taken_step effect leg frame message now).leg
 same_taken_step effect leg frame message now =
     chosen (λ (s : Step). IsSameCall leg s.leg) _ _ _ (same leg)
-    (both_same leg (taken effect leg frame message now) _ (same_taken effect leg frame message now) (same_replied (taken effect leg frame message now) now effect.answer))
+    (both_same leg (taken effect leg frame message now) _ (same_taken effect leg frame message now)
+    (same_replied (taken effect leg frame message now) now effect.answer))
 
-same_judged : (judged : Received) (leg : LegState) (frame : FullFrame) (message : Message) (now : ℕ) → IsSameCall leg (judged_step judged leg frame message now).leg
+same_judged : (judged : Received) (leg : LegState) (frame : FullFrame) (message : Message) (now : ℕ)
+    → IsSameCall leg (judged_step judged leg frame message now).leg
 same_judged received.Taken leg frame message now = same_taken_step (effect_of leg frame message) leg frame message now
 same_judged received.Repeat leg frame message now = same leg
 same_judged received.Gap leg frame message now =
     chosen (λ (s : Step). IsSameCall leg s.leg) (wants_vnak leg now) (asking leg frame now) (not_asking leg)
     (record { number = refl; remote = refl; ruled = record { rules = refl; width = refl; limit = refl } }) (same leg)
 
-same_numbered : (leg : LegState) (frame : FullFrame) (message : Message) (now : ℕ) → IsSameCall leg (numbered_step leg frame message now).leg
+same_numbered : (leg : LegState) (frame : FullFrame) (message : Message) (now : ℕ)
+    → IsSameCall leg (numbered_step leg frame message now).leg
 same_numbered leg frame message now =
     chosen (λ (s : Step). IsSameCall leg s.leg) _ _ _ (same_judged _ leg frame message now) (same leg)
 
@@ -111,11 +145,21 @@ same_vnak judged leg number now =
     (same leg)
 
 same_settled : (leg : LegState) → IsSameCall leg (settled leg)
-same_settled leg = chosen (IsSameCall leg) (is_closing leg.stage && (held_count leg.window == 0)) (staged leg Ended) leg (record { number = refl; remote = refl; ruled = record { rules = refl; width = refl; limit = refl } }) (same leg)
+same_settled leg = chosen (IsSameCall leg) (is_closing leg.stage && (held_count leg.window == 0)) (staged leg Ended) leg
+    (record { number = refl; remote = refl; ruled = record { rules = refl; width = refl; limit = refl } }) (same leg)
 
 same_prepared : (leg : LegState) (frame : FullFrame) → IsSameCall (learnt leg frame.head.source) (prepared leg frame)
 same_prepared leg frame =
-    let judged = same_settled (acknowledged (learnt leg frame.head.source) frame.head.iseqno) in record { number = judged.number; remote = judged.remote; ruled = record { rules = judged.ruled.rules; width = judged.ruled.width; limit = judged.ruled.limit } }
+    let judged = same_settled (acknowledged (learnt leg frame.head.source) frame.head.iseqno) in
+    record {
+      number = judged.number;
+      remote = judged.remote;
+      ruled = record {
+        rules = judged.ruled.rules;
+        width = judged.ruled.width;
+        limit = judged.ruled.limit;
+      };
+    }
 
 abbrev taught_step : Message → LegState → FullFrame → ℕ → Step
 taught_step message leg frame now =
@@ -123,20 +167,34 @@ taught_step message leg frame now =
     then vnak_step (judged_acknowledgement leg.window.history frame.head.iseqno) (prepared leg frame) frame.head.iseqno now
     else numbered_step (prepared leg frame) frame message now
 
-same_taught : (message : Message) (leg : LegState) (frame : FullFrame) (now : ℕ) → IsSameCall (prepared leg frame) (taught_step message leg frame now).leg
+same_taught : (message : Message) (leg : LegState) (frame : FullFrame) (now : ℕ)
+    → IsSameCall (prepared leg frame) (taught_step message leg frame now).leg
 same_taught message leg frame now =
     let judged = judged_acknowledgement leg.window.history frame.head.iseqno in
-    chosen (λ (s : Step). IsSameCall (prepared leg frame) s.leg) (is_vnak message) (vnak_step judged (prepared leg frame) frame.head.iseqno now) (numbered_step (prepared leg frame) frame message now)
+    chosen (λ (s : Step). IsSameCall (prepared leg frame) s.leg) (is_vnak message)
+    (vnak_step judged (prepared leg frame) frame.head.iseqno now) (numbered_step (prepared leg frame) frame message now)
     (same_vnak judged (prepared leg frame) frame.head.iseqno now) (same_numbered (prepared leg frame) frame message now)
 
 -- an INVAL teaches nothing
-message_learns : (message : Message) (leg : LegState) (frame : FullFrame) (now : ℕ) → MayLearn frame.head.source leg (message_step message leg frame now).leg
+message_learns : (message : Message) (leg : LegState) (frame : FullFrame) (now : ℕ)
+    → MayLearn frame.head.source leg (message_step message leg frame now).leg
 message_learns message leg frame now =
-    let learning = both_same (learnt leg frame.head.source) (prepared leg frame) (taught_step message leg frame now).leg (same_prepared leg frame) (same_taught message leg frame now) in
-    chosen (λ (s : Step). MayLearn frame.head.source leg s.leg) (is_inval message) (inval_step leg frame now) (taught_step message leg frame now)
+    let learning = both_same (learnt leg frame.head.source) (prepared leg frame) (taught_step message leg frame now).leg
+    (same_prepared leg frame) (same_taught message leg frame now) in
+    chosen (λ (s : Step). MayLearn frame.head.source leg s.leg) (is_inval message) (inval_step leg frame now)
+    (taught_step message leg frame now)
     (chosen (λ (s : Step). MayLearn frame.head.source leg s.leg) (heeds_inval leg frame) (invalidated leg now) (nothing_sent leg)
     (record { number = refl; remote = inl refl; ruled = record { rules = refl; width = refl; limit = refl } })
-    (record { number = refl; remote = inl refl; ruled = record { rules = refl; width = refl; limit = refl } })) (record { number = learning.number; remote = inr learning.remote; ruled = record { rules = learning.ruled.rules; width = learning.ruled.width; limit = learning.ruled.limit } })
+    (record { number = refl; remote = inl refl; ruled = record { rules = refl; width = refl; limit = refl } }))
+    (record {
+      number = learning.number;
+      remote = inr learning.remote;
+      ruled = record {
+        rules = learning.ruled.rules;
+        width = learning.ruled.width;
+        limit = learning.ruled.limit;
+      };
+    })
 
 pub full_learns : (leg : LegState) (frame : FullFrame) (now : ℕ) → MayLearn frame.head.source leg (full_step leg frame now).leg
 full_learns leg frame now = message_learns (message_of frame.head) leg frame now
@@ -149,13 +207,37 @@ same_row leg (Some row) now = record { number = refl; remote = refl; ruled = rec
 
 pub same_media : (sent : MediaSent) (leg : LegState) (media : List ℕ) (now : ℕ) → IsSameCall leg (after_media sent leg media now)
 same_media Quelched leg media now = same leg
-same_media Voice leg media now = record { number = refl; remote = refl; ruled = record { rules = refl; width = refl; limit = refl } }
+same_media Voice leg media now = record {
+  number = refl;
+  remote = refl;
+  ruled = record {
+    rules = refl;
+    width = refl;
+    limit = refl;
+  };
+}
 same_media (Mini timestamp) leg media now = same leg
 
 pub same_order : (leg : LegState) (order : Order) (now : ℕ) → IsSameCall leg (order_carried leg order now).leg
 same_order leg (orders.Media media) now = same_media (media_sent leg now) leg media.now now
-same_order leg (orders.Doom cause) now = record { number = refl; remote = refl; ruled = record { rules = refl; width = refl; limit = refl } }
-same_order leg orders.Paid now = record { number = refl; remote = refl; ruled = record { rules = refl; width = refl; limit = refl } }
+same_order leg (orders.Doom cause) now = record {
+  number = refl;
+  remote = refl;
+  ruled = record {
+    rules = refl;
+    width = refl;
+    limit = refl;
+  };
+}
+same_order leg orders.Paid now = record {
+  number = refl;
+  remote = refl;
+  ruled = record {
+    rules = refl;
+    width = refl;
+    limit = refl;
+  };
+}
 same_order leg (orders.Accept format) now = same_row leg (order_row leg (orders.Accept format)) now
 same_order leg (orders.Reject cause) now = same_row leg (order_row leg (orders.Reject cause)) now
 same_order leg (orders.Indicate i) now = same_row leg (order_row leg (orders.Indicate i)) now
@@ -168,22 +250,33 @@ same_order leg (orders.Hangup cause) now = same_row leg (order_row leg (orders.H
 same_hang_up : (grown : Bool) (leg : LegState) (now : ℕ) → IsSameCall leg (hang_up_step grown leg now).leg
 same_hang_up grown leg now =
     chosen (λ (t : Tick). IsSameCall leg t.leg) _ _ _
-    (chosen (λ (t : Tick). IsSameCall leg t.leg) grown _ _ (record { number = refl; remote = refl; ruled = record { rules = refl; width = refl; limit = refl } }) (same leg)) (same leg)
+    (chosen (λ (t : Tick). IsSameCall leg t.leg) grown _ _
+    (record { number = refl; remote = refl; ruled = record { rules = refl; width = refl; limit = refl } }) (same leg))
+    (same leg)
 
 same_ping : (grown : Bool) (leg : LegState) (now : ℕ) → IsSameCall leg (ping_step grown leg now).leg
 same_ping grown leg now =
     chosen (λ (t : Tick). IsSameCall leg t.leg) _ _ _
-    (chosen (λ (t : Tick). IsSameCall leg t.leg) grown _ _ (record { number = refl; remote = refl; ruled = record { rules = refl; width = refl; limit = refl } }) (same leg)) (same leg)
+    (chosen (λ (t : Tick). IsSameCall leg t.leg) grown _ _
+    (record { number = refl; remote = refl; ruled = record { rules = refl; width = refl; limit = refl } }) (same leg))
+    (same leg)
 
 same_last : (grown spent : Bool) (leg : LegState) (now : ℕ) → IsSameCall leg (last_step grown spent leg now).leg
 same_last grown spent leg now =
-    chosen (λ (t : Tick). IsSameCall leg t.leg) spent _ _ (record { number = refl; remote = refl; ruled = record { rules = refl; width = refl; limit = refl } }) (same_ping grown leg now)
+    chosen (λ (t : Tick). IsSameCall leg t.leg) spent _ _
+    (record { number = refl; remote = refl; ruled = record { rules = refl; width = refl; limit = refl } })
+    (same_ping grown leg now)
 
-same_one : (due : Resent) (leg : LegState) (now : ℕ) (rest : LegState → Tried) → ((l : LegState) → IsSameCall l (rest l).leg) → IsSameCall leg (one_try due leg now rest).leg
+same_one : (due : Resent) (leg : LegState) (now : ℕ) (rest : LegState → Tried) → ((l : LegState) → IsSameCall l (rest l).leg)
+    → IsSameCall leg (one_try due leg now rest).leg
 same_one resents.Nothing leg now rest keeps = same leg
 same_one resents.Spent leg now rest keeps = same leg
 same_one (resents.Again place) leg now rest keeps =
-    let again = keeps (after_try leg place now) in record { number = again.number; remote = again.remote; ruled = record { rules = again.ruled.rules; width = again.ruled.width; limit = again.ruled.limit } }
+    let again = keeps (after_try leg place now) in record {
+      number = again.number;
+      remote = again.remote;
+      ruled = record { rules = again.ruled.rules; width = again.ruled.width; limit = again.ruled.limit };
+    }
 
 same_tries : (turns : ℕ) (leg : LegState) (now : ℕ) → IsSameCall leg (tries turns leg now).leg
 same_tries zero leg now = same leg
@@ -193,7 +286,8 @@ same_due : (grown : Bool) (leg : LegState) (now : ℕ) → IsSameCall leg (due_f
 same_due grown leg now =
     let hung = hang_up_step grown leg now in
     let tried = tries (held_count leg.window) hung.leg now in
-    both_same leg tried.leg _ (both_same leg hung.leg tried.leg (same_hang_up grown leg now) (same_tries (held_count leg.window) hung.leg now))
+    both_same leg tried.leg _ (both_same leg hung.leg tried.leg (same_hang_up grown leg now)
+    (same_tries (held_count leg.window) hung.leg now))
     (same_last grown tried.spent tried.leg now)
 
 abbrev unended_step : Bool → LegState → ℕ → Tick
@@ -202,5 +296,7 @@ unended_step grown leg now = if must_end leg now then quiet (failed leg (end_fai
 pub same_tick : (grown : Bool) (leg : LegState) (now : ℕ) → IsSameCall leg (tick_step grown leg now).leg
 same_tick grown leg now =
     chosen (λ (t : Tick). IsSameCall leg t.leg) (is_ended leg.stage) (quiet leg) (unended_step grown leg now) (same leg)
-    (chosen (λ (t : Tick). IsSameCall leg t.leg) (must_end leg now) (quiet (failed leg (end_failure leg) now)) (due_frames grown leg now)
-    (record { number = refl; remote = refl; ruled = record { rules = refl; width = refl; limit = refl } }) (same_due grown leg now))
+    (chosen (λ (t : Tick). IsSameCall leg t.leg) (must_end leg now) (quiet (failed leg (end_failure leg) now))
+    (due_frames grown leg now)
+    (record { number = refl; remote = refl; ruled = record { rules = refl; width = refl; limit = refl } })
+    (same_due grown leg now))

@@ -1,5 +1,5 @@
 -- The legs that the arrays represent.
-use Rattle.std.specs.Prelude.{◌≡◌, ℕ, ◌+◌, ◌<◌, true, List, Option, Some, slice_get, All}
+use Rattle.std.specs.Prelude.{◌≡◌, ℕ, ◌+◌, ◌<◌, ◌≤◌, true, List, Option, Some, length, slice_get, All}
 use Rattle.leg_machine.specs.Leg.{LegState}
 use Rattle.leg_machine.specs.Tie.{SendsNumbered}
 use Rattle.seq_window.specs.History.{IsLegal, acked_count, sent_count}
@@ -37,3 +37,5 @@ pub record IsSound (a : Inside) : Type 0 where
   pub legs : AreLegs (legs_of a)
   pub index : IsIndex (legs_of a) a.by_remote
   pub rest : RestUntil a.rest_until a.places.items
+  -- a peer has at most 512 numbers
+  pub most : length a.places.items ≤ 512

@@ -10,11 +10,12 @@ use Rattle.peer_legs.specs.Legs.{PeerLegs, AreLegs, AreLegsOf, leg_at, with_leg}
 
 -- A step of the leg of a number, which may be refused: it changes only that leg, or nothing. The legs are still legs of a
 -- peer, and follow the same rules as before.
-pub record IsStep {A E : Type 0} (old new : PeerLegs) (number : ℕ) (result : Result A E) (step : LegState → LegState) : Type 0 where
-  pub leg : ForSome (leg_at old number) (λ named. OnOk result (new ≡ with_leg old named.name (step named.leg)))
-  pub err : OnErr result (new ≡ old)
-  pub sound : AreLegs new
-  pub ruled : (rules : PeerRules) → AreLegsOf rules old → AreLegsOf rules new
+pub record IsStep {A E : Type 0} (old new : PeerLegs) (number : ℕ) (result : Result A E) (step : LegState → LegState) : Type 0
+  where
+    pub leg : ForSome (leg_at old number) (λ named. OnOk result (new ≡ with_leg old named.name (step named.leg)))
+    pub err : OnErr result (new ≡ old)
+    pub sound : AreLegs new
+    pub ruled : (rules : PeerRules) → AreLegsOf rules old → AreLegsOf rules new
 
 -- An order is refused for what is due, and for want of memory only if it needs some.
 pub record IsAnswer {A : Type 0} (result : Result A OrderError) (due : Option OrderError) (wants : Bool) : Type 0 where

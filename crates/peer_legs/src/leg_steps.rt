@@ -15,6 +15,7 @@ ghost use Rattle.leg_machine.specs.Tie.{TakesTurn, SendsAtMostOne};
 ghost use Rattle.peer_legs.specs.Finding.{can_reach};
 ghost use Rattle.peer_legs.specs.Legs.{NamedLeg as NamedLegValue};
 ghost use Rattle.peer_legs.specs.Steps.{IsAnswer, IsStep};
+ghost use Rattle.memory_requests.specs.Refused.{WasRefused};
 
 use crate::named_leg::recorded;
 use crate::peer_legs::PeerLegs;
@@ -46,7 +47,7 @@ impl PeerLegs {
         ensures heard { IfOk result (λ heard. (named : NamedLegValue) → leg_at self.old number ≡ Some named →
             heard ≡ heard_of (full_step named.leg frame.now now)) }
         // The leg's record grows as that of a side of a network does.
-        ensures tied { (named : NamedLegValue) → leg_at self.old number ≡ Some named →
+        ensures extends_history { (named : NamedLegValue) → leg_at self.old number ≡ Some named →
             OnOk result (TakesTurn named.leg frame.now (full_step named.leg frame.now now).leg) }
         ensures kept { OnOk result (IsSome (leg_at self.new number)) }
         ensures there { OnOk result ((named : NamedLegValue) → leg_at self.old number ≡ Some named
@@ -54,6 +55,7 @@ impl PeerLegs {
         ensures record_full { (named : NamedLegValue) → leg_at self.old number ≡ Some named →
             (result ≡ Err StepError.RecordFull) ↔ (is_record_full named.leg ≡ true) }
         ensures none_sent { OnErr result (replies.new ≡ replies.old) }
+        ensures no_memory { result ≡ Err StepError.Memory → WasRefused }
     {
         let index = self.place_of(number);
         let named = self.places[index].as_mut().unwrap();
@@ -83,11 +85,12 @@ impl PeerLegs {
         ensures step { IsStep self.old self.new number result (λ leg. (order_carried leg order.now now).leg) }
         ensures replies { ForSome (leg_at self.old number) (λ named. OnOk result
             (replies.new ≡ (order_carried named.leg order.now now).datagrams)) }
-        ensures tied { ForSome (leg_at self.old number) (λ named. OnOk result
+        ensures extends_history { ForSome (leg_at self.old number) (λ named. OnOk result
             (SendsAtMostOne named.leg (order_carried named.leg order.now now).leg)) }
         ensures answer { ForSome (leg_at self.old number) (λ named.
             IsAnswer result (order_refused named.leg order.now now) (wants_memory named.leg order.now now)) }
         ensures none_sent { OnErr result (replies.new ≡ replies.old) }
+        ensures no_memory { result ≡ Err OrderError.Memory → WasRefused }
     {
         let index = self.place_of(number);
         let named = self.places[index].as_mut().unwrap();
@@ -118,11 +121,12 @@ impl PeerLegs {
             (λ leg. after_media (media_sent leg now) leg media.now now) }
         ensures replies { ForSome (leg_at self.old number) (λ named. OnOk result
             (replies.new ≡ map spelling (media_frames (media_sent named.leg now) named.leg media.now now))) }
-        ensures tied { ForSome (leg_at self.old number) (λ named. OnOk result
+        ensures extends_history { ForSome (leg_at self.old number) (λ named. OnOk result
             (SendsAtMostOne named.leg (after_media (media_sent named.leg now) named.leg media.now now))) }
         ensures answer { ForSome (leg_at self.old number) (λ named.
             IsAnswer result (media_refused named.leg now) (is_voice (media_sent named.leg now))) }
         ensures none_sent { OnErr result (replies.new ≡ replies.old) }
+        ensures no_memory { result ≡ Err OrderError.Memory → WasRefused }
     {
         let index = self.place_of(number);
         let named = self.places[index].as_mut().unwrap();
@@ -147,7 +151,7 @@ impl PeerLegs {
             replies.new ≡ map spelling (tick_step (result == 0) named.leg now).replies) }
         ensures skipped { ForSome (filled (slice_get self.old.places index)) (λ named.
             result ≡ (tick_step (result == 0) named.leg now).skipped) }
-        ensures tied { ForSome (filled (slice_get self.old.places index)) (λ named.
+        ensures extends_history { ForSome (filled (slice_get self.old.places index)) (λ named.
             SendsAtMostOne named.leg (tick_step (result == 0) named.leg now).leg) }
         ensures none { IfNone (filled (slice_get self.old.places index)) (result ≡ 0) }
         ensures none_changed { IfNone (filled (slice_get self.old.places index)) (self.new ≡ self.old) }

@@ -1,15 +1,18 @@
 //! The legs of one peer, by their local numbers.
 ghost use Rattle.std.specs.Option.{ForSome};
-ghost use Rattle.std.specs.Prelude.{◌&&◌, nat_lt, nat_le, ◌≡◌, ◌+◌, ◌-◌, ◌^◌, ◌<◌, ◌≤◌, ◌↔◌, length, option_copied, count_by, is_some};
+ghost use Rattle.std.specs.Prelude.{◌&&◌, nat_lt, nat_le, ◌≡◌, ◌+◌, ◌-◌, ◌^◌, ◌<◌, ◌≤◌, ◌↔◌, length, option_copied, count_by};
+ghost use Rattle.std.specs.Prelude.{is_some};
 ghost use Rattle.std.specs.Prelude.{replicate, slice_get, true, None, Some, IfOk, IfSome};
-ghost use Rattle.std.specs.Prelude.{IsNone, IsSome};
+ghost use Rattle.std.specs.Prelude.{IsNone, IsSome, OnErr};
 ghost use Rattle.call_signals.specs.declared.rules.PeerRules.{PeerRules};
+ghost use Rattle.memory_requests.specs.Refused.{WasRefused};
 
 use crate::named_leg::NamedLeg;
 use crate::remote_index::RemoteIndex;
 use call_book::{Lease, LegName};
 use iax_frames::CallNumber;
 use leg_machine::Leg;
+use memory_requests::with_capacity;
 use std::alloc::{AllocError, Global};
 use std::marker::Model;
 
@@ -43,9 +46,10 @@ impl Model for PeerLegs {
 
 // Returns `count` places without a leg.
 fn no_legs(alloc: Global, count: u16) -> Result<Vec<Option<NamedLeg>>, AllocError>
-    ensures { IfOk result (λ places. places.items ≡ replicate count None) }
+    ensures places { IfOk result (λ places. places.items ≡ replicate count None) }
+    ensures no_memory { OnErr result WasRefused }
 {
-    let mut places = Vec::with_capacity(alloc, usize::from(count))?;
+    let mut places = with_capacity(alloc, usize::from(count))?;
     for _ in 0..count {
         places.push_reserved(None);
     }
@@ -66,6 +70,7 @@ impl PeerLegs {
         ensures legs { IfOk result (λ legs. legs ≡ record { peer = peer; first = first; places = replicate count None }) }
         ensures sound { IfOk result AreLegs }
         ensures ruled { IfOk result (λ legs. (rules : PeerRules) → AreLegsOf rules legs) }
+        ensures no_memory { OnErr result WasRefused }
     {
         Ok(PeerLegs {
             peer,
@@ -108,7 +113,8 @@ impl PeerLegs {
 
     /// Returns the count of local numbers that have a leg, 0 ..= 512.
     pub fn leg_count(&self) -> usize
-        ensures { result ≡ count_by is_some self.now.places }
+        ensures count { result ≡ count_by is_some self.now.places }
+        ensures most { result ≤ 512 }
     {
         let mut legs = 0;
         for place in &self.places {

@@ -1,9 +1,11 @@
 //! Local numbers by remote number, in an array.
 ghost use Rattle.std.specs.Option.{ForSome};
-ghost use Rattle.std.specs.Prelude.{◌≡◌, ◌<◌, IfOk, Some, length, slice_get};
+ghost use Rattle.std.specs.Prelude.{◌≡◌, ◌<◌, IfOk, OnErr, Some, length, slice_get};
 ghost use Rattle.peer_legs.specs.RemoteNumbers.{AreNone, noted};
+ghost use Rattle.memory_requests.specs.Refused.{WasRefused};
 
 use iax_frames::CallNumber;
+use memory_requests::filled;
 use std::alloc::{AllocError, Global};
 use std::marker::Model;
 
@@ -30,14 +32,16 @@ impl Model for RemoteIndex {
 fn no_numbers(alloc: Global, places: usize) -> Result<Vec<Option<u16>>, AllocError>
     ensures len { IfOk result (λ numbers. length numbers.items ≡ places) }
     ensures none { IfOk result (λ numbers. AreNone numbers.items) }
+    ensures no_memory { OnErr result WasRefused }
 {
-    vec![in alloc; None; places]
+    filled(alloc, None, places)
 }
 
 impl RemoteIndex {
     // Returns an index in which no leg has a remote number.
     pub(crate) fn new(alloc: Global) -> Result<RemoteIndex, AllocError>
-        ensures { IfOk result AreNone }
+        ensures none { IfOk result AreNone }
+        ensures no_memory { OnErr result WasRefused }
     {
         Ok(RemoteIndex {
             numbers: no_numbers(alloc, CALL_NUMBERS)?,

@@ -45,7 +45,7 @@ impl PeerLegs {
     }
 
     /// Finds the moment until which the legs rest, for `are_resting`. Contracts see no change.
-    pub fn settle(&mut self)
+    pub fn refresh_idle(&mut self)
         ensures { self.new ≡ self.old }
     {
         self.rest_until = all_rest_until(&self.places);

@@ -1,6 +1,7 @@
 -- The number of datagrams that media adds to those to be sent.
 use Rattle.std.specs.Prelude.{map}
-use Rattle.std.proofs.Common.{◌≡◌, ◌≤◌, ℕ, ◌+◌, ◌&&◌, Bool, true, false, List, [], ◌∷◌, ◌++◌, Option, None, Some, length, ap, refl, ◌∙◌, arith}
+use Rattle.std.proofs.Common.{◌≡◌, ◌≤◌, ℕ, ◌+◌, ◌&&◌, Bool, true, false, List, [], ◌∷◌, ◌++◌, Option, None, Some, length, ap}
+use Rattle.std.proofs.Common.{refl, ◌∙◌, arith}
 use Rattle.std.proofs.lemmas.List.{drop_all, length-append, length-take}
 use Rattle.call_book.specs.declared.leg_name.LegName.{LegName}
 use Rattle.call_signals.specs.Order.{kind_of}
@@ -15,7 +16,8 @@ use Rattle.leg_machine.specs.declared.media.MediaSent.TheVariants as sent
 use Rattle.outbox.specs.Outbox.{OutboxView, put, lose}
 use Rattle.peer_accounts.specs.declared.account.Carried.TheVariants.{Packed, Queued, Dropped}
 use Rattle.peer_legs.specs.Legs.{NamedLeg, leg_named}
-use Rattle.peer_lock.specs.Orders.{ordered_if, ordered_step, carries_media, short_media, waiting_media, queued_media, carried_media, with_entry, with_media}
+use Rattle.peer_lock.specs.Orders.{ordered_if, ordered_step, carries_media, short_media, waiting_media, queued_media}
+use Rattle.peer_lock.specs.Orders.{carried_media, with_entry, with_media}
 use Rattle.peer_lock.specs.Peer.{PeerView, flushed_if, to_send, with_datagram, with_sent}
 use Rattle.peer_lock.specs.Trunks.{has_any, goes_ahead, begins_next, is_full_for}
 use Rattle.peer_lock.proofs.Choices.{either}
@@ -37,14 +39,21 @@ then_adds n m a b c first second = record {
 
 -- ---- the outbox
 
-put_most : (outbox : OutboxView) (datagrams : List (List ℕ)) → length (put outbox datagrams).waiting ≤ length outbox.waiting + length datagrams
+put_most : (outbox : OutboxView) (datagrams : List (List ℕ)) → length (put outbox datagrams).waiting ≤ length outbox.waiting
+    + length datagrams
 put_most outbox datagrams = omega (arith, length-take 256 (outbox.waiting ++ datagrams), length-append outbox.waiting datagrams)
 
-put_kept : (outbox : OutboxView) (datagrams : List (List ℕ)) → length outbox.waiting + length datagrams ≤ 256 → (put outbox datagrams).lost ≡ outbox.lost
+put_kept : (outbox : OutboxView) (datagrams : List (List ℕ)) → length outbox.waiting + length datagrams ≤ 256
+    → (put outbox datagrams).lost ≡ outbox.lost
 put_kept outbox datagrams fits =
-    ap (lose outbox.lost) (drop_all 256 (outbox.waiting ++ datagrams) (omega (arith, length-append outbox.waiting datagrams, fits)))
+    ap (lose outbox.lost) (drop_all 256 (outbox.waiting ++ datagrams) (omega (
+      arith,
+      length-append outbox.waiting datagrams,
+      fits,
+    )))
 
-pub put_adds : (peer : PeerView) (datagrams : List (List ℕ)) → Adds (length datagrams) peer (record peer { outbox = put peer.outbox datagrams })
+pub put_adds : (peer : PeerView) (datagrams : List (List ℕ))
+    → Adds (length datagrams) peer (record peer { outbox = put peer.outbox datagrams })
 put_adds peer datagrams = record {
   most = omega (arith, put_most peer.outbox datagrams);
   kept = λ fits. put_kept peer.outbox datagrams (omega (arith, fits));
@@ -53,7 +62,8 @@ put_adds peer datagrams = record {
 -- ---- the queue
 
 -- sending the queue replaces one waiting datagram by another
-pub flush_adds : (goes : Bool) (peer : PeerView) (queue : List QueueEntry) → Adds 0 (record peer { queue = queue }) (flushed_if goes (record peer { queue = queue }))
+pub flush_adds : (goes : Bool) (peer : PeerView) (queue : List QueueEntry)
+    → Adds 0 (record peer { queue = queue }) (flushed_if goes (record peer { queue = queue }))
 flush_adds false peer queue = none_added (record peer { queue = queue })
 flush_adds true peer [] = none_added (record peer { queue = [] })
 flush_adds true peer (e ∷ queue) =
@@ -63,7 +73,8 @@ flush_adds true peer (e ∷ queue) =
       kept = λ fits. put_kept peer.outbox datagrams (omega (arith, fits));
     }
 
-pub sent_adds : (peer : PeerView) (number : ℕ) (datagrams : List (List ℕ)) → Adds (length datagrams) peer (with_sent peer number datagrams)
+pub sent_adds : (peer : PeerView) (number : ℕ) (datagrams : List (List ℕ))
+    → Adds (length datagrams) peer (with_sent peer number datagrams)
 sent_adds peer number datagrams =
     let goes = has_any datagrams && goes_ahead peer.rules peer.queue number in
     let added = then_adds 0 (length datagrams) peer (flushed_if goes peer) (with_sent peer number datagrams)
@@ -90,7 +101,8 @@ queued_adds peer entry now =
 
 -- ---- media
 
-short_adds : (peer : PeerView) (number timestamp : ℕ) (media : List ℕ) (now : ℕ) → Adds 1 peer (short_media peer number timestamp media now)
+short_adds : (peer : PeerView) (number timestamp : ℕ) (media : List ℕ) (now : ℕ)
+    → Adds 1 peer (short_media peer number timestamp media now)
 short_adds peer number timestamp media now =
     let entry : QueueEntry = record { number = number; timestamp = timestamp; media = media } in
     let datagram : List ℕ = mini_spelling (record { source = number; timestamp = timestamp; media = media }) in
@@ -98,10 +110,12 @@ short_adds peer number timestamp media now =
     let added = put_adds peer (datagram ∷ []) in
     either (λ (p : PeerView). Adds 1 peer p) peer.rules.trunk
     (waiting_media peer entry now) (carried_media (with_datagram peer datagram) Packed (length media))
-    (then_adds 0 1 peer (flushed_if next peer) (waiting_media peer entry now) (flush_adds next peer peer.queue) (queued_adds (flushed_if next peer) entry now))
+    (then_adds 0 1 peer (flushed_if next peer) (waiting_media peer entry now) (flush_adds next peer peer.queue)
+    (queued_adds (flushed_if next peer) entry now))
     (record { most = added.most; kept = added.kept })
 
-pub media_adds : (how : MediaSent) (peer : PeerView) (named : NamedLeg) (media : List ℕ) (now : ℕ) → Adds 1 peer (carries_media how peer named media now)
+pub media_adds : (how : MediaSent) (peer : PeerView) (named : NamedLeg) (media : List ℕ) (now : ℕ)
+    → Adds 1 peer (carries_media how peer named media now)
 media_adds sent.Quelched peer named media now =
     let added = sent_adds peer named.name.number [] in
     record { most = omega (arith, added.most); kept = λ fits. added.kept (omega (arith, fits)) }
@@ -114,7 +128,8 @@ media_adds (sent.Mini timestamp) peer named media now =
     then_adds 0 1 peer with (short_media with named.name.number timestamp media now)
     (record { most = added.most; kept = added.kept }) (short_adds with named.name.number timestamp media now)
 
-at_adds : (peer : PeerView) (named : Option NamedLeg) (order : Order) (now : ℕ) → kind_of order ≡ kinds.Media → Adds 1 peer (ordered_if peer named order now)
+at_adds : (peer : PeerView) (named : Option NamedLeg) (order : Order) (now : ℕ) → kind_of order ≡ kinds.Media
+    → Adds 1 peer (ordered_if peer named order now)
 at_adds peer None order now is = record { most = omega arith; kept = λ _. refl }
 at_adds peer (Some named) (orders.Media media) now is =
     let added = media_adds (media_sent named.leg now) peer named media.now now in
@@ -128,5 +143,6 @@ at_adds peer (Some named) (orders.Hangup cause) now is = cc
 at_adds peer (Some named) (orders.Doom cause) now is = cc
 at_adds peer (Some named) orders.Paid now is = cc
 
-pub media_order_adds : (peer : PeerView) (name : LegName) (order : Order) (now : ℕ) → kind_of order ≡ kinds.Media → Adds 1 peer (ordered_step peer name order now)
+pub media_order_adds : (peer : PeerView) (name : LegName) (order : Order) (now : ℕ) → kind_of order ≡ kinds.Media
+    → Adds 1 peer (ordered_step peer name order now)
 media_order_adds peer name order now is = at_adds peer (leg_named peer.legs name) order now is

@@ -1,6 +1,7 @@
 -- The media of the entries of a trunk frame, one after another.
 use native.Mathlib.Omega.{arith}
-use Rattle.std.proofs.Common.{◌≡◌, ◌≤◌, ℕ, suc, ◌+◌, ◌*◌, Bool, true, false, List, [], ◌∷◌, ◌++◌, Option, None, length, append-nil, ap, refl, ◌∙◌, sym, subst}
+use Rattle.std.proofs.Common.{◌≡◌, ◌≤◌, ℕ, suc, ◌+◌, ◌*◌, Bool, true, false, List, [], ◌∷◌, ◌++◌, Option, None, length}
+use Rattle.std.proofs.Common.{append-nil, ap, refl, ◌∙◌, sym, subst}
 use Rattle.std.proofs.lemmas.List.{append_assoc}
 use Rattle.std.proofs.Math.Nat.{add_assoc}
 use Rattle.iax_frames.specs.TrunkFrame.{head_len}
@@ -12,7 +13,8 @@ use Rattle.peer_legs.specs.Legs.{NamedLeg, leg_of_remote}
 use Rattle.peer_lock.specs.Peer.{PeerView}
 
 -- these entries are left, and this is the media that all of them give
-pub record AreLeft (first : ℕ) (start : PeerView) (before : Credit) (total : MediaTaken) (timed : Bool) (at : ℕ) (items : List (ℕ × Option ℕ × List ℕ)) (peer : PeerView) (pass : Credit) (onwards : HandedUp) : Type 0 where
+pub record AreLeft (first : ℕ) (start : PeerView) (before : Credit) (total : MediaTaken) (timed : Bool) (at : ℕ)
+    (items : List (ℕ × Option ℕ × List ℕ)) (peer : PeerView) (pass : Credit) (onwards : HandedUp) : Type 0 where
   pub done : ℕ
   pub here : peer ≡ record start { accounts = with_accepted start.accounts done }
   pub signals : onwards.signals ++ (entries_media first peer.legs timed at peer.accounts.accepted items).signals ≡ total.signals
@@ -36,14 +38,22 @@ module _ (first : ℕ) (start : PeerView) (before : Credit) (total : MediaTaken)
   short_on at head media rest short = omega arith
 
   -- one entry is handled
-  pub one_less : (at : ℕ) (item : ℕ × Option ℕ × List ℕ) (items all : List (ℕ × Option ℕ × List ℕ)) (peer next : PeerView) (pass after : Credit) (onwards more : HandedUp)
+  pub one_less : (at : ℕ) (item : ℕ × Option ℕ × List ℕ) (items all : List (ℕ × Option ℕ × List ℕ)) (peer next : PeerView)
+      (pass after : Credit) (onwards more : HandedUp)
       → Left at all peer pass onwards
       → all ≡ item ∷ items
-      → next ≡ record peer { accounts = with_accepted peer.accounts (media_at first peer.accounts.accepted (leg_of_remote peer.legs item.0) (entry_span timed at item)).octets }
-      → more.signals ≡ onwards.signals ++ (media_at first peer.accounts.accepted (leg_of_remote peer.legs item.0) (entry_span timed at item)).signals
+      → next ≡ record peer {
+        accounts = with_accepted peer.accounts
+            (media_at first peer.accounts.accepted (leg_of_remote peer.legs item.0) (entry_span timed at item)).octets;
+      }
+      → more.signals ≡ onwards.signals ++ (media_at first peer.accounts.accepted (leg_of_remote peer.legs item.0)
+      (entry_span timed at item)).signals
       → more.offer ≡ onwards.offer
       → onwards.room ≤ more.room + 1
-      → after ≡ record pass { octets = pass.octets + (media_at first peer.accounts.accepted (leg_of_remote peer.legs item.0) (entry_span timed at item)).octets }
+      → after ≡ record pass {
+        octets = pass.octets + (media_at first peer.accounts.accepted (leg_of_remote peer.legs item.0)
+            (entry_span timed at item)).octets;
+      }
       → Left (entry_span timed at item).end items next after more
   one_less at item items all peer next pass after onwards more whole these went signals offer room credit =
       subst (λ n. Left (entry_span timed at item).end items n after more) (sym went)
@@ -51,7 +61,10 @@ module _ (first : ℕ) (start : PeerView) (before : Credit) (total : MediaTaken)
       (record {
         done = left.done + now.octets;
         here = ap more_accepted left.here
-            ∙ (λ i. record start { accounts = record start.accounts { accepted = (sum_on start.accounts.accepted left.done now.octets) i } });
+            ∙ (λ i. record start {
+              accounts = record start.accounts
+                  { accepted = (sum_on start.accounts.accepted left.done now.octets) i };
+            });
         signals = ap (λ s. s ++ later.signals) signals ∙ append_assoc onwards.signals now.signals later.signals ∙ left.signals;
         octets = sum_on left.done now.octets later.octets ∙ left.octets;
         credit = ap more_credit left.credit
@@ -80,29 +93,43 @@ module _ (first : ℕ) (start : PeerView) (before : Credit) (total : MediaTaken)
       later = entries_media first peer.legs timed (entry_span timed at item).end (peer.accounts.accepted + now.octets) items
 
   -- the same, if the place of the media is computed in another way
-  one_less_in : (at : ℕ) (span : MediaSpan) (item : ℕ × Option ℕ × List ℕ) (items all : List (ℕ × Option ℕ × List ℕ)) (peer next : PeerView) (pass after : Credit) (onwards more : HandedUp)
+  one_less_in : (at : ℕ) (span : MediaSpan) (item : ℕ × Option ℕ × List ℕ) (items all : List (ℕ × Option ℕ × List ℕ))
+      (peer next : PeerView) (pass after : Credit) (onwards more : HandedUp)
       → Left at all peer pass onwards
       → all ≡ item ∷ items
       → entry_span timed at item ≡ span
-      → next ≡ record peer { accounts = with_accepted peer.accounts (media_at first peer.accounts.accepted (leg_of_remote peer.legs item.0) span).octets }
+      → next ≡ record peer {
+        accounts = with_accepted peer.accounts
+            (media_at first peer.accounts.accepted (leg_of_remote peer.legs item.0) span).octets;
+      }
       → more.signals ≡ onwards.signals ++ (media_at first peer.accounts.accepted (leg_of_remote peer.legs item.0) span).signals
       → more.offer ≡ onwards.offer
       → onwards.room ≤ more.room + 1
-      → after ≡ record pass { octets = pass.octets + (media_at first peer.accounts.accepted (leg_of_remote peer.legs item.0) span).octets }
+      → after ≡ record pass {
+        octets = pass.octets + (media_at first peer.accounts.accepted (leg_of_remote peer.legs item.0)
+            span).octets;
+      }
       → Left span.end items next after more
   one_less_in at span item items all peer next pass after onwards more whole these here =
       subst (λ place.
-      next ≡ record peer { accounts = with_accepted peer.accounts (media_at first peer.accounts.accepted (leg_of_remote peer.legs item.0) place).octets }
+      next ≡ record peer {
+        accounts = with_accepted peer.accounts
+            (media_at first peer.accounts.accepted (leg_of_remote peer.legs item.0) place).octets;
+      }
       → more.signals ≡ onwards.signals ++ (media_at first peer.accounts.accepted (leg_of_remote peer.legs item.0) place).signals
       → more.offer ≡ onwards.offer
       → onwards.room ≤ more.room + 1
-      → after ≡ record pass { octets = pass.octets + (media_at first peer.accounts.accepted (leg_of_remote peer.legs item.0) place).octets }
+      → after ≡ record pass {
+        octets = pass.octets + (media_at first peer.accounts.accepted (leg_of_remote peer.legs item.0)
+            place).octets;
+      }
       → Left place.end items next after more)
       here
       (one_less at item items all peer next pass after onwards more whole these)
 
   -- .. and if the leg is found in another way
-  pub one_less_at : (leg : Option NamedLeg) (at : ℕ) (span : MediaSpan) (item : ℕ × Option ℕ × List ℕ) (items all : List (ℕ × Option ℕ × List ℕ)) (peer next : PeerView) (pass after : Credit) (onwards more : HandedUp)
+  pub one_less_at : (leg : Option NamedLeg) (at : ℕ) (span : MediaSpan) (item : ℕ × Option ℕ × List ℕ)
+      (items all : List (ℕ × Option ℕ × List ℕ)) (peer next : PeerView) (pass after : Credit) (onwards more : HandedUp)
       → leg ≡ leg_of_remote peer.legs item.0
       → Left at all peer pass onwards
       → all ≡ item ∷ items
@@ -117,7 +144,8 @@ module _ (first : ℕ) (start : PeerView) (before : Credit) (total : MediaTaken)
       rw found (one_less_in at span item items all peer next pass after onwards more whole these here)
 
   -- an entry for no leg
-  pub none_less_at : (at : ℕ) (span : MediaSpan) (item : ℕ × Option ℕ × List ℕ) (items all : List (ℕ × Option ℕ × List ℕ)) (peer : PeerView) (pass : Credit) (onwards : HandedUp)
+  pub none_less_at : (at : ℕ) (span : MediaSpan) (item : ℕ × Option ℕ × List ℕ) (items all : List (ℕ × Option ℕ × List ℕ))
+      (peer : PeerView) (pass : Credit) (onwards : HandedUp)
       → leg_of_remote peer.legs item.0 ≡ None
       → Left at all peer pass onwards
       → all ≡ item ∷ items
@@ -139,8 +167,10 @@ count n all enough short = omega arith
 -- each entry has four octets or more
 least : (timed : Bool) (items : List (ℕ × Option ℕ × List ℕ)) → 4 * length items ≤ entries_len timed items
 least timed [] = omega arith
-least true (item ∷ items) = let rest = least true items in more (length items) 6 (length item.2) (entries_len true items) rest (omega arith)
-least false (item ∷ items) = let rest = least false items in more (length items) 4 (length item.2) (entries_len false items) rest (omega arith)
+least true (item ∷ items) = let rest = least true items in more (length items) 6 (length item.2) (entries_len true items) rest
+    (omega arith)
+least false (item ∷ items) = let rest = least false items in more (length items) 4 (length item.2) (entries_len false items) rest
+    (omega arith)
 
 pub few_entries : (timed : Bool) (items : List (ℕ × Option ℕ × List ℕ)) → 8 + entries_len timed items ≤ 2048 → length items ≤ 512
 few_entries timed items short = let all = least timed items in count (length items) (entries_len timed items) all short

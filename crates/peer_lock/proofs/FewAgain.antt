@@ -13,7 +13,8 @@ use Rattle.iax_frames.specs.declared.datagram.Datagram.TheVariants.{Full}
 use Rattle.iax_frames.specs.declared.stored_frame.Frame.{Frame}
 use Rattle.leg_machine.specs.Leg.{LegState, staged}
 use Rattle.leg_machine.specs.Replies.{sent_again}
-use Rattle.leg_machine.specs.Steps.{Step, answer_step, inval_step, message_step, nothing_sent, numbered_step, oldest_step, prepared, resend_step, vnak_step}
+use Rattle.leg_machine.specs.Steps.{Step, answer_step, inval_step, message_step, nothing_sent, numbered_step, oldest_step}
+use Rattle.leg_machine.specs.Steps.{prepared, resend_step, vnak_step}
 use Rattle.leg_machine.specs.Tie.{IsLegOf}
 use Rattle.leg_machine.specs.Working.{acknowledged, brings_oldest, counts, learnt, vnak_noted}
 use Rattle.peer_legs.specs.Finding.{found}
@@ -34,20 +35,24 @@ use Rattle.seq_window.specs.declared.judgements.Acknowledged.{Acknowledged}
 
 -- ---- what is held
 
-from_few : (first : ℕ) (frames : List Frame) (sendings : List Sending) → length (numbered_from first frames sendings) ≤ length sendings
+from_few : (first : ℕ) (frames : List Frame) (sendings : List Sending) → length (numbered_from first frames sendings)
+    ≤ length sendings
 from_few first [] sendings = omega arith
 from_few first (frame ∷ frames) [] = omega arith
 from_few first (frame ∷ frames) (s ∷ sendings) = omega (arith, from_few (first + 1) frames sendings)
 
-within_few : (width : ℕ) (history : List Entry) (held : ℕ) → IsWithinWindow width history → held + acked_count history ≡ sent_count history → held ≤ width
+within_few : (width : ℕ) (history : List Entry) (held : ℕ) → IsWithinWindow width history
+    → held + acked_count history ≡ sent_count history → held ≤ width
 within_few width history held within count = omega (arith, within.held, count)
 
 held_few : (rules : PeerRules) (leg : LegState) → IsLegOf rules leg → held_count leg.window ≤ rules.window
 held_few rules leg is =
     let whole : IsWithinWindow leg.window.width leg.window.history =
-    subst (λ (h : List Entry). IsWithinWindow leg.window.width h) (take_all (length leg.window.history) leg.window.history (omega arith))
+    subst (λ (h : List Entry). IsWithinWindow leg.window.width h) (take_all (length leg.window.history) leg.window.history
+    (omega arith))
     (is.legal.at_each_moment (length leg.window.history)) in
-    subst (λ (width : ℕ). held_count leg.window ≤ width) is.width (within_few leg.window.width leg.window.history (held_count leg.window) whole is.held)
+    subst (λ (width : ℕ). held_count leg.window ≤ width) is.width (within_few leg.window.width leg.window.history
+    (held_count leg.window) whole is.held)
 
 -- a frame that comes takes off some
 prepared_few : (leg : LegState) (frame : FullFrame) → held_count (prepared leg frame).window ≤ held_count leg.window
@@ -55,7 +60,8 @@ prepared_few leg frame =
     let judged : LegState = acknowledged (learnt leg frame.head.source) frame.head.iseqno in
     let count : ℕ = count_of (judged_acknowledgement leg.window.history frame.head.iseqno) in
     let fewer : held_count judged.window ≤ held_count leg.window = omega (arith, length-drop count leg.window.sendings) in
-    either (λ (l : LegState). held_count l.window ≤ held_count leg.window) (is_closing judged.stage && (held_count judged.window == 0))
+    either (λ (l : LegState). held_count l.window ≤ held_count leg.window)
+    (is_closing judged.stage && (held_count judged.window == 0))
     (staged judged Ended) judged fewer fewer
 
 -- ---- retransmitted datagrams
@@ -65,7 +71,8 @@ list_few None = omega arith
 list_few (Some one) = omega arith
 
 -- to a leg that holds so few
-answer_few : (most : ℕ) (leg : LegState) (number now : ℕ) → 1 ≤ most → held_count leg.window ≤ most → length (answer_step leg number now).replies ≤ most
+answer_few : (most : ℕ) (leg : LegState) (number now : ℕ) → 1 ≤ most → held_count leg.window ≤ most
+    → length (answer_step leg number now).replies ≤ most
 answer_few most leg number now some few =
     let noted : LegState = vnak_noted leg number now in
     let oldest = list_few (option_map (sent_again noted) (held_at noted.window 0)) in
@@ -79,7 +86,8 @@ vnak_few_at most judged leg number now some few =
     either (λ (s : Step). length s.replies ≤ most) (counts judged) (answer_step leg number now) (nothing_sent leg)
     (answer_few most leg number now some few) (omega arith)
 
-message_few_at : (most : ℕ) (message : Message) (leg : LegState) (frame : FullFrame) (now : ℕ) → 1 ≤ most → held_count leg.window ≤ most
+message_few_at : (most : ℕ) (message : Message) (leg : LegState) (frame : FullFrame) (now : ℕ) → 1 ≤ most
+    → held_count leg.window ≤ most
     → length (message_step message leg frame now).replies ≤ most
 message_few_at most message leg frame now some few =
     let numbered : Step = numbered_step (prepared leg frame) frame message now in
@@ -95,9 +103,11 @@ message_few_at most message leg frame now some few =
 -- ---- at a peer
 
 -- without a leg
-unknown_few : (drains : Bool) (rules : PeerRules) (pokes : Pokes) (frame : FullFrame) (now : ℕ) → (delivered_load (legless drains rules pokes frame now) frame now).datagrams ≤ 127
+unknown_few : (drains : Bool) (rules : PeerRules) (pokes : Pokes) (frame : FullFrame) (now : ℕ)
+    → (delivered_load (legless drains rules pokes frame now) frame now).datagrams ≤ 127
 unknown_few drains rules pokes frame now =
-    of_each (λ d. (delivered_load d frame now).datagrams ≤ 127) drains rules pokes frame now (omega arith) (omega arith) (omega arith) (omega arith) (omega arith) (omega arith) (omega arith)
+    of_each (λ d. (delivered_load d frame now).datagrams ≤ 127) drains rules pokes frame now (omega arith) (omega arith)
+    (omega arith) (omega arith) (omega arith) (omega arith) (omega arith)
     (omega arith)
     (λ tokens. omega arith)
 
@@ -109,5 +119,6 @@ found_few peer frame now (Some named) sound is =
     let few = held_few peer.rules named.leg (sound.kept.ruled named.name.number named at) in
     message_few_at 127 (message_of frame.head) named.leg frame now (omega arith) (omega (arith, few, sound.kept.rules.window.1))
 
-pub vnak_few : (peer : PeerView) (frame : FullFrame) (now : ℕ) → IsSoundPeer peer → (datagram_load peer (Full frame) now).datagrams ≤ 127
+pub vnak_few : (peer : PeerView) (frame : FullFrame) (now : ℕ) → IsSoundPeer peer
+    → (datagram_load peer (Full frame) now).datagrams ≤ 127
 vnak_few peer frame now sound = found_few peer frame now (found peer.legs frame) sound refl

@@ -1,5 +1,6 @@
 -- The invariant of a peer's lock still holds after its legs have stepped, and after its queue was sent.
-use Rattle.std.proofs.Common.{◌≡◌, ◌≤◌, ℕ, ◌+◌, Bool, true, false, cond, List, [], ◌∷◌, ◌++◌, length, ap, sym, subst, refl, ◌∙◌, arith}
+use Rattle.std.proofs.Common.{◌≡◌, ◌≤◌, ℕ, ◌+◌, Bool, true, false, cond, List, [], ◌∷◌, ◌++◌, length, ap, sym, subst, refl, ◌∙◌}
+use Rattle.std.proofs.Common.{arith}
 use Rattle.iax_frames.specs.TrunkFrame.{head_len}
 use Rattle.outbox.specs.Outbox.{OutboxView}
 use Rattle.call_signals.specs.declared.rules.PeerRules.{PeerRules}
@@ -12,7 +13,8 @@ use Rattle.trunk_packer.specs.Queue.{QueueEntry, media_octets, trunk_octets}
 
 -- the legs follow the same rules as before
 pub legs_kept : (peer : PeerView) (legs : PeerLegs) (outbox : OutboxView) → IsKept peer
-    → ((rules : PeerRules) → AreLegsOf rules peer.legs → AreLegsOf rules legs) → IsKept (record peer { legs = legs; outbox = outbox })
+    → ((rules : PeerRules) → AreLegsOf rules peer.legs → AreLegsOf rules legs)
+    → IsKept (record peer { legs = legs; outbox = outbox })
 legs_kept peer legs outbox kept ruled =
     record { rules = kept.rules; ruled = ruled peer.rules kept.ruled; queued = kept.queued; one_frame = kept.one_frame }
 
@@ -21,7 +23,8 @@ none_queued : (flushed : Bool) (queue : List QueueEntry) (queued : ℕ) → queu
 none_queued true queue queued is = refl
 none_queued false queue queued is = is
 
-short_frame : (flushed timed : Bool) (queue : List QueueEntry) → trunk_octets timed queue ≤ 1400 → trunk_octets timed (cond flushed [] queue) ≤ 1400
+short_frame : (flushed timed : Bool) (queue : List QueueEntry) → trunk_octets timed queue ≤ 1400
+    → trunk_octets timed (cond flushed [] queue) ≤ 1400
 short_frame true timed queue fits = omega arith
 short_frame false timed queue fits = fits
 
@@ -29,7 +32,8 @@ short_frame false timed queue fits = fits
 pub empty_frame : (timed : Bool) (queue : List QueueEntry) → queue ≡ [] → trunk_octets timed queue ≤ 1400
 empty_frame timed queue none = subst (λ (q : List QueueEntry). trunk_octets timed q ≤ 1400) (sym none) (omega arith)
 
-push_octets : (timed : Bool) (queue : List QueueEntry) (e : QueueEntry) → trunk_octets timed (queue ++ e ∷ []) ≡ trunk_octets timed queue + head_len timed + length e.media
+push_octets : (timed : Bool) (queue : List QueueEntry) (e : QueueEntry) → trunk_octets timed (queue ++ e ∷ []) ≡ trunk_octets
+    timed queue + head_len timed + length e.media
 push_octets timed [] e = omega arith
 push_octets timed (x ∷ queue) e = omega (arith, push_octets timed queue e)
 
@@ -37,7 +41,8 @@ push_octets timed (x ∷ queue) e = omega (arith, push_octets timed queue e)
 pub kept_queued : (peer : PeerView) (queue : List QueueEntry) (since : ℕ) (accounts : Accounts) (e : QueueEntry) → IsKept peer
     → queue ≡ peer.queue ++ e ∷ [] → media_octets queue ≡ media_octets peer.queue + length e.media
     → accounts.queued ≡ peer.accounts.queued + length e.media
-    → (waits peer.rules ≡ true → trunk_octets peer.rules.trunk_timestamps peer.queue + head_len peer.rules.trunk_timestamps + length e.media ≤ 1400)
+    → (waits peer.rules ≡ true → trunk_octets peer.rules.trunk_timestamps peer.queue + head_len peer.rules.trunk_timestamps
+    + length e.media ≤ 1400)
     → IsKept (record peer { queue = queue; since = since; accounts = accounts })
 kept_queued peer queue since accounts e kept more counted queued room = record {
   rules = kept.rules;
@@ -49,14 +54,16 @@ kept_queued peer queue since accounts e kept more counted queued room = record {
 }
 
 -- .. and the queue was sent
-pub kept_after : (peer : PeerView) (goes : Bool) (legs : PeerLegs) (outbox : OutboxView) (queue : List QueueEntry) (accounts : Accounts) → IsKept peer
+pub kept_after : (peer : PeerView) (goes : Bool) (legs : PeerLegs) (outbox : OutboxView) (queue : List QueueEntry)
+    (accounts : Accounts) → IsKept peer
     → ((rules : PeerRules) → AreLegsOf rules peer.legs → AreLegsOf rules legs)
     → queue ≡ queue_after goes peer.queue → accounts ≡ accounts_after goes peer.queue peer.accounts
     → IsKept (record peer { legs = legs; outbox = outbox; queue = queue; accounts = accounts })
 kept_after peer goes legs outbox queue accounts kept ruled queue_is accounts_are = record {
   rules = kept.rules;
   ruled = ruled peer.rules kept.ruled;
-  queued = ap (λ (a : Accounts). a.queued) accounts_are ∙ none_queued (flushes goes peer.queue) peer.queue peer.accounts.queued kept.queued ∙ ap media_octets (sym queue_is);
+  queued = ap (λ (a : Accounts). a.queued) accounts_are ∙ none_queued (flushes goes peer.queue) peer.queue peer.accounts.queued
+      kept.queued ∙ ap media_octets (sym queue_is);
   one_frame = λ waiting.
       subst (λ (q : List QueueEntry). trunk_octets peer.rules.trunk_timestamps q ≤ 1400) (sym queue_is)
       (short_frame (flushes goes peer.queue) peer.rules.trunk_timestamps peer.queue (kept.one_frame waiting));

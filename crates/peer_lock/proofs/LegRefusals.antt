@@ -6,6 +6,7 @@ use Rattle.peer_lock.specs.Errors.{from_leg}
 use Rattle.peer_lock.specs.Orders.{IsOrderRefusal, from_leg_due}
 use Rattle.peer_lock.specs.declared.errors.OrderError.{OrderError}
 
-pub refusal_becomes : (due : Option LegError) (error : LegError) → IsRefusal due error → (e : OrderError) → e ≡ from_leg error → IsOrderRefusal (from_leg_due due) e
+pub refusal_becomes : (due : Option LegError) (error : LegError) → IsRefusal due error → (e : OrderError) → e ≡ from_leg error
+    → IsOrderRefusal (from_leg_due due) e
 refusal_becomes None error is e from = from ∙ ap from_leg is
 refusal_becomes (Some due) error is e from = from ∙ ap from_leg is

@@ -1,3 +1,4 @@
+pub mod Ascending
 pub mod Bursts
 pub mod Carrying
 pub mod Choices
@@ -7,7 +8,13 @@ pub mod Kept
 pub mod LegRefusals
 pub mod NoneDropped
 pub mod NumberTicks
+pub mod OldFrames
 pub mod Opened
+pub mod Orderly
+pub mod OrderlyMedia
+pub mod OrderlyParts
+pub mod OrderlySteps
+pub mod OrderlyTicks
 pub mod Packing
 pub mod Reached
 mod Tokens
@@ -27,3 +34,4 @@ pub mod SidesTicks
 pub mod Ticking
 pub mod Trunks
 pub mod UnknownCalls
+pub mod Sending

@@ -1,6 +1,7 @@
 -- In plan version 4 a full trunk queue drops nothing: it is sent first.
 use Rattle.std.specs.Prelude.{nat_lt, not, ◌||◌, ◌≢◌}
-use Rattle.std.proofs.Common.{◌≡◌, ◌≤◌, ℕ, ◌+◌, ◌&&◌, Bool, true, false, cond, inl, inr, List, [], ◌∷◌, Option, Some, length, ap, refl, ◌∙◌, arith}
+use Rattle.std.proofs.Common.{◌≡◌, ◌≤◌, ℕ, ◌+◌, ◌&&◌, Bool, true, false, cond, inl, inr, List, [], ◌∷◌, Option, Some, length, ap}
+use Rattle.std.proofs.Common.{refl, ◌∙◌, arith}
 use Rattle.std.proofs.lemmas.Bool.{cases_Bool, ltb-true}
 use Rattle.call_book.specs.declared.leg_name.LegName.{LegName}
 use Rattle.call_signals.specs.declared.order.Order.{Order}
@@ -12,7 +13,8 @@ use Rattle.leg_machine.specs.declared.media.MediaSent.{MediaSent}
 use Rattle.leg_machine.specs.declared.media.MediaSent.TheVariants as sent
 use Rattle.peer_accounts.specs.declared.account.Carried.TheVariants.{Packed, Queued, Dropped}
 use Rattle.peer_legs.specs.Legs.{NamedLeg, leg_named}
-use Rattle.peer_lock.specs.Orders.{order_octets, ordered_at, ordered_if, ordered_step, counted_media, short_media, waiting_media, queued_media, carried_media, with_entry, with_media}
+use Rattle.peer_lock.specs.Orders.{order_octets, ordered_at, ordered_if, ordered_step, counted_media, short_media, waiting_media}
+use Rattle.peer_lock.specs.Orders.{queued_media, carried_media, with_entry, with_media}
 use Rattle.peer_lock.specs.Peer.{PeerView, flushed_if, with_datagram}
 use Rattle.peer_lock.specs.Trunks.{waits, is_full_for, fills_frame, begins_next, queue_after}
 use Rattle.peer_lock.proofs.Choices.{either}
@@ -46,27 +48,34 @@ not_full rules queue number octets waiting short = elim (cases_Bool (begins_next
 queued_kept : (peer : PeerView) (entry : QueueEntry) (now : ℕ) → is_full_for peer.queue (length entry.media) ≡ false
     → (queued_media peer entry now).accounts.dropped ≡ peer.accounts.dropped
 queued_kept peer entry now room =
-    ap (λ (b : Bool). (cond b (carried_media peer Dropped (length entry.media)) (carried_media (with_entry peer entry now) Queued (length entry.media))).accounts.dropped) room
+    ap (λ (b : Bool). (cond b (carried_media peer Dropped (length entry.media)) (carried_media (with_entry peer entry now) Queued
+    (length entry.media))).accounts.dropped) room
 
 short_kept : (peer : PeerView) (number timestamp : ℕ) (media : List ℕ) (now : ℕ) → waits peer.rules ≡ true → length media ≤ 1380
     → (short_media peer number timestamp media now).accounts.dropped ≡ peer.accounts.dropped
 short_kept peer number timestamp media now waiting short =
     let entry : QueueEntry = record { number = number; timestamp = timestamp; media = media } in
     either (λ (p : PeerView). p.accounts.dropped ≡ peer.accounts.dropped) peer.rules.trunk (waiting_media peer entry now)
-    (carried_media (with_datagram peer (mini_spelling (record { source = number; timestamp = timestamp; media = media }))) Packed (length media))
-    (queued_kept (flushed_if (begins_next peer.rules peer.queue number (length media)) peer) entry now (not_full peer.rules peer.queue number (length media) waiting short))
+    (carried_media (with_datagram peer (mini_spelling (record { source = number; timestamp = timestamp; media = media }))) Packed
+    (length media))
+    (queued_kept (flushed_if (begins_next peer.rules peer.queue number (length media)) peer) entry now
+    (not_full peer.rules peer.queue number (length media) waiting short))
     refl
 
-media_kept : (how : MediaSent) (peer : PeerView) (named : NamedLeg) (media : List ℕ) (now : ℕ) → waits peer.rules ≡ true → length media ≤ 1380 → how ≢ sent.Quelched
-    → (counted_media how (with_media how peer named media now) named.name.number media now).accounts.dropped ≡ peer.accounts.dropped
+media_kept : (how : MediaSent) (peer : PeerView) (named : NamedLeg) (media : List ℕ) (now : ℕ) → waits peer.rules ≡ true
+    → length media ≤ 1380 → how ≢ sent.Quelched
+    → (counted_media how (with_media how peer named media now) named.name.number media now).accounts.dropped
+    ≡ peer.accounts.dropped
 media_kept sent.Quelched peer named media now waiting short other = absurd (other refl)
 media_kept sent.Voice peer named media now waiting short other = refl
 media_kept (sent.Mini timestamp) peer named media now waiting short other =
     short_kept (with_media (sent.Mini timestamp) peer named media now) named.name.number timestamp media now waiting short
 
-ordered_kept : (peer : PeerView) (named : NamedLeg) (order : Order) (now : ℕ) → waits peer.rules ≡ true → order_octets order ≤ 1380 → media_sent named.leg now ≢ sent.Quelched
+ordered_kept : (peer : PeerView) (named : NamedLeg) (order : Order) (now : ℕ) → waits peer.rules ≡ true
+    → order_octets order ≤ 1380 → media_sent named.leg now ≢ sent.Quelched
     → (ordered_at peer named order now).accounts.dropped ≡ peer.accounts.dropped
-ordered_kept peer named (orders.Media media) now waiting short other = media_kept (media_sent named.leg now) peer named media.now now waiting short other
+ordered_kept peer named (orders.Media media) now waiting short other = media_kept (media_sent named.leg now) peer named media.now
+    now waiting short other
 ordered_kept peer named (orders.Accept format) now waiting short other = refl
 ordered_kept peer named (orders.Reject cause) now waiting short other = refl
 ordered_kept peer named (orders.Indicate indication) now waiting short other = refl
@@ -76,8 +85,10 @@ ordered_kept peer named (orders.Hangup cause) now waiting short other = refl
 ordered_kept peer named (orders.Doom cause) now waiting short other = refl
 ordered_kept peer named orders.Paid now waiting short other = refl
 
-pub none_dropped : (peer : PeerView) (name : LegName) (order : Order) (now : ℕ) (named : NamedLeg) → waits peer.rules ≡ true → order_octets order ≤ 1380
+pub none_dropped : (peer : PeerView) (name : LegName) (order : Order) (now : ℕ) (named : NamedLeg) → waits peer.rules ≡ true
+    → order_octets order ≤ 1380
     → leg_named peer.legs name ≡ Some named → media_sent named.leg now ≢ sent.Quelched
     → (ordered_step peer name order now).accounts.dropped ≡ peer.accounts.dropped
 none_dropped peer name order now named waiting short is other =
-    ap (λ (o : Option NamedLeg). (ordered_if peer o order now).accounts.dropped) is ∙ ordered_kept peer named order now waiting short other
+    ap (λ (o : Option NamedLeg). (ordered_if peer o order now).accounts.dropped) is ∙ ordered_kept peer named order now waiting
+    short other

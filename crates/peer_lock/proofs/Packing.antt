@@ -13,8 +13,13 @@ use Rattle.trunk_packer.specs.Queue.{QueueEntry, media_octets, trunk_octets, Pac
 fronts_more : (timed : Bool) (now : ℕ) (datagrams : List (List ℕ)) (old between new : List QueueEntry) (datagram : List ℕ)
     → PacksFronts timed now old datagrams between → PacksFront timed now between new datagram → length new < length between
     → PacksFronts timed now old (datagrams ++ datagram ∷ []) new
-fronts_more timed now [] old between new datagram here front shorter =
-    (new, subst (λ q. PacksFront timed now q new datagram) here front, subst (λ (q : List QueueEntry). length new < length q) here shorter, refl)
+fronts_more timed now [] old between new datagram here front shorter = (
+  new,
+  subst (λ q. PacksFront timed now q new datagram) here front,
+  subst (λ (q : List QueueEntry). length new < length q) here
+      shorter,
+  refl,
+)
 fronts_more timed now (first ∷ datagrams) old between new datagram here front shorter =
     (here.0, here.1, here.2, fronts_more timed now datagrams here.0 between new datagram here.3 front shorter)
 
@@ -26,7 +31,8 @@ pub record ArePacked (start : PeerView) (now octets : ℕ) (peer : PeerView) : T
   pub few : media_octets start.queue ≤ 16384
   pub rest : peer ≡ with_packed start datagrams peer.queue octets
 
-pub none_packed : (start : PeerView) (now : ℕ) → start.accounts.queued ≡ media_octets start.queue → media_octets start.queue ≤ 16384 → ArePacked start now 0 start
+pub none_packed : (start : PeerView) (now : ℕ) → start.accounts.queued ≡ media_octets start.queue
+    → media_octets start.queue ≤ 16384 → ArePacked start now 0 start
 none_packed start now queued few = record {
   datagrams = [];
   fronts = refl;
@@ -44,23 +50,30 @@ none_packed start now queued few = record {
 more_media : (start done one left now : ℕ) → start ≡ done + left → left ≡ one + now → start ≡ done + one + now
 more_media start done one left now a b = omega arith
 
-pub one_packed : (start : PeerView) (now octets one : ℕ) (peer next : PeerView) → ArePacked start now octets peer → PacksOne peer now one next → ArePacked start now (octets + one) next
+pub one_packed : (start : PeerView) (now octets one : ℕ) (peer next : PeerView) → ArePacked start now octets peer
+    → PacksOne peer now one next → ArePacked start now (octets + one) next
 one_packed start now octets one peer next so step = record {
   datagrams = so.datagrams ++ step.datagram ∷ [];
   fronts = fronts_more start.rules.trunk_timestamps now so.datagrams start.queue peer.queue next.queue step.datagram so.fronts
-      (subst (λ (timed : Bool). PacksFront timed now peer.queue next.queue step.datagram) (ap (λ (p : PeerView). p.rules.trunk_timestamps) so.rest) step.front)
+      (subst (λ (timed : Bool). PacksFront timed now peer.queue next.queue step.datagram)
+      (ap (λ (p : PeerView). p.rules.trunk_timestamps) so.rest) step.front)
       step.shorter;
-  media = more_media (media_octets start.queue) octets one (media_octets peer.queue) (media_octets next.queue) so.media step.media;
+  media = more_media (media_octets start.queue) octets one (media_octets peer.queue) (media_octets next.queue) so.media
+      step.media;
   few = so.few;
   rest = step.rest ∙ ap (λ (p : PeerView). with_packed p (step.datagram ∷ []) next.queue one) so.rest
       ∙ λ i. record start {
         outbox = record start.outbox { waiting = (append_assoc start.outbox.waiting so.datagrams (step.datagram ∷ [])) i };
         queue = next.queue;
-        accounts = record start.accounts { packed = (add_assoc start.accounts.packed octets one) i; queued = media_octets next.queue };
+        accounts = record start.accounts {
+          packed = (add_assoc start.accounts.packed octets one) i;
+          queued = media_octets next.queue;
+        };
       };
 }
 
-pub all_packed : (start : PeerView) (now octets : ℕ) (peer : PeerView) → ArePacked start now octets peer → IsPacked peer → PacksMedia start now octets peer
+pub all_packed : (start : PeerView) (now octets : ℕ) (peer : PeerView) → ArePacked start now octets peer → IsPacked peer
+    → PacksMedia start now octets peer
 all_packed start now octets peer so done =
     record { datagrams = so.datagrams; fronts = so.fronts; media = so.media; rest = so.rest; done = done }
 
@@ -69,12 +82,14 @@ rest_octets : (timed : Bool) (front rest : List QueueEntry) → trunk_octets tim
 rest_octets timed [] rest = omega arith
 rest_octets timed (e ∷ front) rest = omega (arith, rest_octets timed front rest)
 
-short_rest : (timed : Bool) (now : ℕ) (old new : List QueueEntry) (out : List ℕ) → PacksFront timed now old new out → trunk_octets timed old ≤ 1400 → trunk_octets timed new ≤ 1400
+short_rest : (timed : Bool) (now : ℕ) (old new : List QueueEntry) (out : List ℕ) → PacksFront timed now old new out
+    → trunk_octets timed old ≤ 1400 → trunk_octets timed new ≤ 1400
 short_rest timed now old new out packs short =
     let whole : trunk_octets timed old ≡ trunk_octets timed (packs.front ++ new) = ap (trunk_octets timed) packs.whole in
     omega (arith, rest_octets timed packs.front new, whole, short)
 
-pub packed_kept : (peer : PeerView) (now octets : ℕ) (out : List ℕ) (outbox : OutboxView) (queue : List QueueEntry) (accounts : Accounts) → IsKept peer
+pub packed_kept : (peer : PeerView) (now octets : ℕ) (out : List ℕ) (outbox : OutboxView) (queue : List QueueEntry)
+    (accounts : Accounts) → IsKept peer
     → PacksFront peer.rules.trunk_timestamps now peer.queue queue out → media_octets peer.queue ≡ octets + media_octets queue
     → accounts.queued + octets ≡ peer.accounts.queued
     → IsKept (record peer { outbox = outbox; queue = queue; accounts = accounts })

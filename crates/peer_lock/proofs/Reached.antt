@@ -13,42 +13,55 @@ use Rattle.peer_lock.specs.Peer.{PeerView, granted, handed_up, leg_alone, offer_
 use Rattle.peer_lock.specs.declared.steps.Step.{Step}
 
 -- the leg takes its step, and its signal is counted and handed up
-pub reached : (first : ℕ) (old between new : PeerView) (named : NamedLeg) (frame : FullFrame) (now : ℕ) (heard : Heard) (step : Step) (pass_old pass_new : Credit) (onwards : HandedUp)
+pub reached : (first : ℕ) (old between new : PeerView) (named : NamedLeg) (frame : FullFrame) (now : ℕ) (heard : Heard)
+    (step : Step) (pass_old pass_new : Credit) (onwards : HandedUp)
     → between ≡ record (with_sent old named.name.number (map spelling (full_step named.leg frame now).replies)) {
       legs = with_leg old.legs named.name (full_step named.leg frame now).leg;
     }
     → heard ≡ heard_of (full_step named.leg frame now)
-    → new ≡ record between { accounts = with_accepted (stepped between.accounts) (granted first between.accounts.accepted heard.signal).octets }
+    → new ≡ record between {
+      accounts = with_accepted (stepped between.accounts) (granted first between.accounts.accepted
+          heard.signal).octets;
+    }
     → step ≡ record (leg_alone named.name heard.judged) { rejected = reflection between.rules frame heard.judged }
     → onwards.signals ≡ handed_up named.name (granted first between.accounts.accepted heard.signal).signal
     → onwards.offer ≡ offer_with (full_step named.leg frame now).leg (granted first between.accounts.accepted heard.signal).signal
     → pass_new ≡ with_credit pass_old (granted first between.accounts.accepted heard.signal).octets
     → Makes (reached_step first old named frame now) new step pass_old pass_new onwards
-reached first old between new named frame now heard step pass_old pass_new onwards between_is heard_is new_is step_is signals_are offer_is credit_is = record {
-  peer =
-      new_is
-      ∙ ap (λ (v : PeerView). record v { accounts = with_accepted (stepped v.accounts) (granted first v.accounts.accepted heard.signal).octets }) between_is
-      ∙ ap (λ (h : Heard). record sent {
-        legs = with_leg old.legs named.name (full_step named.leg frame now).leg;
-        accounts = with_accepted (stepped sent.accounts) (granted first old.accounts.accepted h.signal).octets;
-      }) heard_is;
-  answer =
-      step_is
-      ∙ ap (λ (v : PeerView). record (leg_alone named.name heard.judged) { rejected = reflection v.rules frame heard.judged }) between_is
-      ∙ ap (λ (h : Heard). record (leg_alone named.name h.judged) { rejected = reflection old.rules frame h.judged }) heard_is;
-  signals =
-      signals_are
-      ∙ ap (λ (v : PeerView). handed_up named.name (granted first v.accounts.accepted heard.signal).signal) between_is
-      ∙ ap (λ (h : Heard). handed_up named.name (granted first old.accounts.accepted h.signal).signal) heard_is;
-  offer =
-      offer_is
-      ∙ ap (λ (v : PeerView). offer_with (full_step named.leg frame now).leg (granted first v.accounts.accepted heard.signal).signal) between_is
-      ∙ ap (λ (h : Heard). offer_with (full_step named.leg frame now).leg (granted first old.accounts.accepted h.signal).signal) heard_is;
-  credit =
-      credit_is
-      ∙ ap (λ (v : PeerView). with_credit pass_old (granted first v.accounts.accepted heard.signal).octets) between_is
-      ∙ ap (λ (h : Heard). with_credit pass_old (granted first old.accounts.accepted h.signal).octets) heard_is;
-}
+reached first old between new named frame now heard step pass_old pass_new onwards between_is heard_is new_is step_is signals_are
+    offer_is credit_is = record {
+      peer =
+          new_is
+          ∙ ap (λ (v : PeerView). record v {
+            accounts = with_accepted (stepped v.accounts)
+                (granted first v.accounts.accepted heard.signal).octets;
+          }) between_is
+          ∙ ap (λ (h : Heard). record sent {
+            legs = with_leg old.legs named.name (full_step named.leg frame now).leg;
+            accounts = with_accepted (stepped sent.accounts) (granted first old.accounts.accepted h.signal).octets;
+          }) heard_is;
+      answer =
+          step_is
+          ∙ ap (λ (v : PeerView). record (leg_alone named.name heard.judged) { rejected = reflection v.rules frame heard.judged })
+          between_is
+          ∙ ap (λ (h : Heard). record (leg_alone named.name h.judged) { rejected = reflection old.rules frame h.judged })
+          heard_is;
+      signals =
+          signals_are
+          ∙ ap (λ (v : PeerView). handed_up named.name (granted first v.accounts.accepted heard.signal).signal) between_is
+          ∙ ap (λ (h : Heard). handed_up named.name (granted first old.accounts.accepted h.signal).signal) heard_is;
+      offer =
+          offer_is
+          ∙ ap (λ (v : PeerView). offer_with (full_step named.leg frame now).leg
+          (granted first v.accounts.accepted heard.signal).signal) between_is
+          ∙ ap (λ (h : Heard). offer_with (full_step named.leg frame now).leg
+          (granted first old.accounts.accepted h.signal).signal)
+          heard_is;
+      credit =
+          credit_is
+          ∙ ap (λ (v : PeerView). with_credit pass_old (granted first v.accounts.accepted heard.signal).octets) between_is
+          ∙ ap (λ (h : Heard). with_credit pass_old (granted first old.accounts.accepted h.signal).octets) heard_is;
+    }
   where
     sent : PeerView
     sent = with_sent old named.name.number (map spelling (full_step named.leg frame now).replies)

@@ -25,8 +25,10 @@ pub record AreLookedAt (credit made : ℕ) (octets : List ℕ) (answer : Result 
   pub reading : IsReading octets answer
 
 -- the same under other names
-pub looked_at : (inside peer : PeerView) (credit : ℕ) (spent : Bool) (octets other : List ℕ) (answer given : Result Datagram FrameError)
-    → inside ≡ peer → (inside.accounts.steps ≡ credit → IsTrue spent) → spent ≡ false → length octets ≤ 2048 → IsReading octets answer
+pub looked_at : (inside peer : PeerView) (credit : ℕ) (spent : Bool) (octets other : List ℕ)
+    (answer given : Result Datagram FrameError)
+    → inside ≡ peer → (inside.accounts.steps ≡ credit → IsTrue spent) → spent ≡ false → length octets ≤ 2048
+    → IsReading octets answer
     → octets ≡ other → answer ≡ given → AreLookedAt credit peer.accounts.steps other given
 looked_at inside peer credit spent octets other answer given same tells is short reading octets_are answer_is = record {
   steps = λ all. true≢false (sym (tells (ap (λ (p : PeerView). p.accounts.steps) same ∙ all)) ∙ is);
@@ -75,7 +77,8 @@ module _ (credit made : ℕ) (octets : List ℕ) (steps : made ≢ credit) (shor
 
   -- the datagram is the one that was read, and its refusal is the result
   module _ (result : Result Step PeerError) (d : Datagram) (none : (error : FrameError) → Refuses octets error → ⊥)
-      (only : (other : Datagram) → Spells octets other → other ≡ d) (unsound : (e : PeerError) → IsRefusedRead d e → result ≡ Err e) where
+      (only : (other : Datagram) → Spells octets other → other ≡ d) (unsound : (e : PeerError) → IsRefusedRead d e
+      → result ≡ Err e) where
     as_read : (e : PeerError) (other : Datagram) → Spells octets other → IsRefusedRead other e → result ≡ Err e
     as_read e other spelled why = unsound e (subst (λ x. IsRefusedRead x e) (only other spelled) why)
 
@@ -92,10 +95,12 @@ module _ (credit made : ℕ) (octets : List ℕ) (d : Datagram) (looked : AreLoo
   pub read_unworked : (result : Result Step PeerError) → ((e : PeerError) → IsRefusedRead d e → result ≡ Err e)
       → (e : PeerError) → IsUnworked credit made octets e → result ≡ Err e
   read_unworked result unsound =
-      ok_unworked credit made octets looked.steps looked.short result d (unrefused octets d looked.reading) (spelled_alone octets d looked.reading) unsound
+      ok_unworked credit made octets looked.steps looked.short result d (unrefused octets d looked.reading)
+      (spelled_alone octets d looked.reading) unsound
 
   pub read_due : (peer : PeerView) (now : ℕ) (result : Result Step PeerError)
       → IfErr result (λ e. IsRefusedRead d e ⊎ (IsSound d × IsDue (datagram_refused peer d now) e))
-      → IfErr result (λ e. IsUnworked credit made octets e ⊎ ((d : Datagram) × IsWorked credit made octets d × IsDue (datagram_refused peer d now) e))
+      → IfErr result (λ e. IsUnworked credit made octets e ⊎ ((d : Datagram) × IsWorked credit made octets d ×
+      IsDue (datagram_refused peer d now) e))
   read_due peer now (Ok step) due = due
   read_due peer now (Err e) due = ok_refused credit made octets looked.steps looked.short peer now d e looked.reading.exact due

@@ -1,5 +1,6 @@
 -- A tick that has nothing to do leaves a peer as it is.
-use Rattle.std.proofs.Common.{◌≡◌, ℕ, ◌+◌, ◌≤◌, ◌&&◌, Bool, cond, true, false, inl, inr, List, [], ◌∷◌, Option, None, Some, length, ap, sym, refl, subst, ◌∙◌, arith}
+use Rattle.std.proofs.Common.{◌≡◌, ℕ, ◌+◌, ◌≤◌, ◌&&◌, Bool, cond, true, false, inl, inr, List, [], ◌∷◌, Option, None, Some}
+use Rattle.std.proofs.Common.{length, ap, sym, refl, subst, ◌∙◌, arith}
 use Rattle.std.specs.Prelude.{is_some, nat_lt}
 use Rattle.std.proofs.lemmas.List.{append-nil}
 use Rattle.outbox.specs.Outbox.{put, extended}
@@ -7,14 +8,16 @@ use Rattle.outbox.proofs.Puts.{put_none}
 use Rattle.peer_lock.specs.Peer.{PeerView, counted, flushed_if}
 use Rattle.peer_lock.specs.SoundPeer.{IsSoundPeer}
 use Rattle.peer_lock.specs.Pokes.{is_poke_due, poke_octets, poked, pokes_after, pokes_sent}
-use Rattle.peer_lock.specs.Ticks.{asked, LegsTick, TicksLegs, Ticks, Packs, PacksMedia, PacksFronts, QueueRests, RestsAt, flushed_ahead}
+use Rattle.peer_lock.specs.Ticks.{asked, LegsTick, TicksLegs, Ticks, Packs, PacksMedia, PacksFronts, QueueRests, RestsAt}
+use Rattle.peer_lock.specs.Ticks.{flushed_ahead}
 use Rattle.peer_lock.specs.Trunks.{is_due, outbox_after, queue_after, accounts_after}
 use Rattle.peer_lock.specs.declared.steps.TickReport.{TickReport}
 use Rattle.peer_lock.proofs.Ticking.{IdleLegsStay, resting_places}
 use Rattle.trunk_packer.specs.Queue.{QueueEntry, media_octets}
 
 -- the legs that rest do nothing
-legs_rest : IdleLegsStay → (old : PeerView) (now skipped : ℕ) (between : PeerView) → RestsAt old now → TicksLegs old now skipped between → between ≡ old
+legs_rest : IdleLegsStay → (old : PeerView) (now skipped : ℕ) (between : PeerView) → RestsAt old now
+    → TicksLegs old now skipped between → between ≡ old
 legs_rest stay old now skipped between rests ticks =
     ticks.legs
     ∙ ap (λ (t : LegsTick). record (flushed_ahead old t.datagrams) {
@@ -24,20 +27,23 @@ legs_rest stay old now skipped between rests ticks =
     ∙ λ i. record old { outbox = sym (put_none old.outbox rests.few) i }
 
 -- no front of an empty queue is sent
-no_fronts : (timed : Bool) (now : ℕ) (old : List QueueEntry) (datagrams : List (List ℕ)) (new : List QueueEntry) → old ≡ [] → PacksFronts timed now old datagrams new
+no_fronts : (timed : Bool) (now : ℕ) (old : List QueueEntry) (datagrams : List (List ℕ)) (new : List QueueEntry) → old ≡ []
+    → PacksFronts timed now old datagrams new
     → datagrams ≡ []
 no_fronts timed now old [] new none fronts = refl
 no_fronts timed now old (d ∷ datagrams) new none fronts =
     let short : length old ≡ 0 = ap length none in
     absurd (omega (arith, short, fronts.2))
 
-none_left : (timed : Bool) (now : ℕ) (old : List QueueEntry) (datagrams : List (List ℕ)) (new : List QueueEntry) → datagrams ≡ [] → PacksFronts timed now old datagrams new
+none_left : (timed : Bool) (now : ℕ) (old : List QueueEntry) (datagrams : List (List ℕ)) (new : List QueueEntry) → datagrams ≡ []
+    → PacksFronts timed now old datagrams new
     → new ≡ old
 none_left timed now old [] new none fronts = fronts
 none_left timed now old (d ∷ datagrams) new none fronts = cc
 
 -- nothing is sent from an empty queue
-empty_rests : (old : PeerView) (now octets : ℕ) (new : PeerView) → old.queue ≡ [] → old.accounts.queued ≡ media_octets old.queue → PacksMedia old now octets new → new ≡ old
+empty_rests : (old : PeerView) (now octets : ℕ) (new : PeerView) → old.queue ≡ [] → old.accounts.queued ≡ media_octets old.queue
+    → PacksMedia old now octets new → new ≡ old
 empty_rests old now octets new none queued packs =
     let timed = old.rules.trunk_timestamps in
     let sent = no_fronts timed now old.queue packs.datagrams new.queue none packs.fronts in
@@ -67,10 +73,12 @@ none_out true peer [] none = refl
 none_out true peer (e ∷ queue) none = cc
 none_out false peer queue none = refl
 
-queue_rests : (wait : Option ℕ) (old : PeerView) (now octets : ℕ) (new : PeerView) → wait ≡ old.rules.trunk_ms → QueueRests old now
+queue_rests : (wait : Option ℕ) (old : PeerView) (now octets : ℕ) (new : PeerView) → wait ≡ old.rules.trunk_ms
+    → QueueRests old now
     → old.accounts.queued ≡ media_octets old.queue → Packs wait old now octets new → new ≡ old
 queue_rests None old now octets new wait_is (inl none) queued packs = empty_rests old now octets new none queued packs
-queue_rests None old now octets new wait_is (inr waiting) queued packs = let no : false ≡ true = ap is_some wait_is ∙ waiting.0 in cc
+queue_rests None old now octets new wait_is (inr waiting) queued packs = let no : false ≡ true = ap is_some wait_is ∙ waiting.0 in
+    cc
 queue_rests (Some wait) old now octets new wait_is (inl none) queued packs =
     packs.rest ∙ none_out (is_due old.rules.trunk_ms old.since now && nat_lt (length old.outbox.waiting) 256) old old.queue none
 queue_rests (Some wait) old now octets new wait_is (inr waiting) queued packs =
@@ -79,18 +87,27 @@ queue_rests (Some wait) old now octets new wait_is (inr waiting) queued packs =
     (ap (λ (b : Bool). b && nat_lt (length old.outbox.waiting) 256) waiting.1)
 
 -- no POKE goes out where none is due
-unasked : (peer : PeerView) (now : ℕ) → is_poke_due peer.rules peer.pokes now ≡ false → length peer.outbox.waiting ≤ 256 → asked peer now ≡ peer
+unasked : (peer : PeerView) (now : ℕ) → is_poke_due peer.rules peer.pokes now ≡ false → length peer.outbox.waiting ≤ 256
+    → asked peer now ≡ peer
 unasked peer now none few =
     let sent : pokes_sent peer.rules peer.pokes now ≡ [] = ap (λ (b : Bool). cond b (poke_octets now ∷ []) []) none in
-    let pokes : pokes_after peer.rules peer.pokes now ≡ peer.pokes = ap (λ (b : Bool). cond b (poked peer.rules peer.pokes now) peer.pokes) none in
+    let pokes : pokes_after peer.rules peer.pokes now ≡ peer.pokes =
+    ap (λ (b : Bool). cond b (poked peer.rules peer.pokes now) peer.pokes) none in
     λ i. record peer { outbox = (ap (put peer.outbox) sent ∙ sym (put_none peer.outbox few)) i; pokes = pokes i }
 
-pub resting_stays : IdleLegsStay → (old new : PeerView) (now : ℕ) (report : TickReport) → IsSoundPeer old → RestsAt old now → Ticks old now report new
+pub resting_stays : IdleLegsStay → (old new : PeerView) (now : ℕ) (report : TickReport) → IsSoundPeer old → RestsAt old now
+    → Ticks old now report new
     → new ≡ counted old
 resting_stays stay old new now report sound rests ticks =
-    let rests_counted : RestsAt (counted old) now = record { legs = rests.legs; queue = rests.queue; pokes = rests.pokes; few = rests.few } in
+    let rests_counted : RestsAt (counted old) now = record {
+      legs = rests.legs;
+      queue = rests.queue;
+      pokes = rests.pokes;
+      few = rests.few;
+    } in
     let start = unasked (counted old) now rests.pokes rests.few in
-    let legs : TicksLegs (counted old) now report.skipped ticks.between = subst (λ (p : PeerView). TicksLegs p now report.skipped ticks.between) start ticks.legs in
+    let legs : TicksLegs (counted old) now report.skipped ticks.between =
+    subst (λ (p : PeerView). TicksLegs p now report.skipped ticks.between) start ticks.legs in
     let between_is = legs_rest stay (counted old) now report.skipped ticks.between rests_counted legs in
     queue_rests old.rules.trunk_ms (counted old) now ticks.octets new refl rests.queue sound.kept.queued
     (subst (λ (b : PeerView). Packs b.rules.trunk_ms b now ticks.octets new) between_is ticks.packs)

@@ -1,6 +1,7 @@
 -- If a peer has room for a step's load, nothing is lost.
 use Rattle.std.specs.Prelude.{map, nat_le, nat_lt, ◌||◌}
-use Rattle.std.proofs.Common.{◌≡◌, ◌≤◌, ℕ, ◌+◌, ◌-◌, ◌&&◌, Bool, true, false, cond, inl, inr, List, [], ◌∷◌, ◌++◌, Option, None, Some, length, ap, sym, subst, refl, ◌∙◌, arith}
+use Rattle.std.proofs.Common.{◌≡◌, ◌≤◌, ℕ, ◌+◌, ◌-◌, ◌&&◌, Bool, true, false, cond, inl, inr, List, [], ◌∷◌, ◌++◌, Option, None}
+use Rattle.std.proofs.Common.{Some, length, ap, sym, subst, refl, ◌∙◌, arith}
 use Rattle.std.proofs.lemmas.Bool.{cases_Bool, ltb-true, leb-true}
 use Rattle.std.proofs.lemmas.List.{length-append}
 use Rattle.call_book.specs.declared.leg_name.LegName.{LegName}
@@ -20,7 +21,8 @@ use Rattle.peer_accounts.specs.Accounts.{Accounts, stepped}
 use Rattle.peer_accounts.specs.declared.account.Carried.TheVariants.{Packed, Queued as QueuedMedia, Dropped}
 use Rattle.peer_legs.specs.Legs.{NamedLeg, PeerLegs, leg_named, with_leg}
 use Rattle.peer_lock.specs.Loads.{Load, Puts, QueueHasRoom, dropped_for_room, load_of, no_load, order_load, plus}
-use Rattle.peer_lock.specs.Orders.{order_octets, ordered_if, ordered_at, ordered_step, carries_media, carried_media, short_media, waiting_media, with_entry, with_media, with_order}
+use Rattle.peer_lock.specs.Orders.{order_octets, ordered_if, ordered_at, ordered_step, carries_media, carried_media, short_media}
+use Rattle.peer_lock.specs.Orders.{waiting_media, with_entry, with_media, with_order}
 use Rattle.peer_lock.specs.Peer.{PeerView, flushed_if, with_datagram, with_sent}
 use Rattle.peer_lock.specs.Trunks.{has_any, waits, goes_ahead, begins_next, is_full_for}
 use Rattle.peer_lock.proofs.Bursts.{Adds, then_adds, put_adds, flush_adds, sent_adds, media_adds}
@@ -58,7 +60,8 @@ room_first peer first second (inl waiting) = inl waiting
 room_first peer first second (inr (inl none)) = inr (inl none)
 room_first peer first second (inr (inr room)) = inr (inr (omega (arith, room.0), omega (arith, room.1)))
 
-room_second : (a b : PeerView) (first second : Load) → Queues first a b → QueueHasRoom a (plus first second) → QueueHasRoom b second
+room_second : (a b : PeerView) (first second : Load) → Queues first a b → QueueHasRoom a (plus first second)
+    → QueueHasRoom b second
 room_second a b first second queues (inl waiting) = inl (ap (λ r. waits r) queues.rules ∙ waiting)
 room_second a b first second queues (inr (inl none)) = inr (inl (ap (λ r. r.trunk) queues.rules ∙ none))
 room_second a b first second queues (inr (inr room)) =
@@ -79,12 +82,15 @@ then_puts first second a b c one other =
     (then_queues first second a b c (queues_of first a b one) (queues_of second b c other))
 
 -- a smaller load has room if a larger one does
-room_less : (peer : PeerView) (less more : Load) → less.datagrams ≤ more.datagrams → less.octets ≤ more.octets → QueueHasRoom peer more → QueueHasRoom peer less
+room_less : (peer : PeerView) (less more : Load) → less.datagrams ≤ more.datagrams → less.octets ≤ more.octets
+    → QueueHasRoom peer more → QueueHasRoom peer less
 room_less peer less more datagrams octets (inl waiting) = inl waiting
 room_less peer less more datagrams octets (inr (inl none)) = inr (inl none)
-room_less peer less more datagrams octets (inr (inr room)) = inr (inr (omega (arith, room.0, datagrams), omega (arith, room.1, octets)))
+room_less peer less more datagrams octets (inr (inr room)) =
+    inr (inr (omega (arith, room.0, datagrams), omega (arith, room.1, octets)))
 
-queues_less : (less more : Load) (old new : PeerView) → less.datagrams ≤ more.datagrams → less.octets ≤ more.octets → Queues less old new → Queues more old new
+queues_less : (less more : Load) (old new : PeerView) → less.datagrams ≤ more.datagrams → less.octets ≤ more.octets
+    → Queues less old new → Queues more old new
 queues_less less more old new datagrams octets queues = record {
   rules = queues.rules;
   entries = omega (arith, queues.entries, datagrams);
@@ -92,9 +98,13 @@ queues_less less more old new datagrams octets queues = record {
   queued = λ room. queues.queued (room_less old less more datagrams octets room);
 }
 
-pub puts_less : (less more : Load) (old new : PeerView) → less.datagrams ≤ more.datagrams → less.octets ≤ more.octets → Puts less old new → Puts more old new
+pub puts_less : (less more : Load) (old new : PeerView) → less.datagrams ≤ more.datagrams → less.octets ≤ more.octets
+    → Puts less old new → Puts more old new
 puts_less less more old new datagrams octets puts =
-    both more old new (record { most = omega (arith, puts.most, datagrams); kept = λ fits. puts.sent (omega (arith, fits, datagrams)) })
+    both more old new (record {
+      most = omega (arith, puts.most, datagrams);
+      kept = λ fits. puts.sent (omega (arith, fits, datagrams));
+    })
     (queues_less less more old new datagrams octets (queues_of less old new puts))
 
 pub none_put : (peer : PeerView) → Puts no_load peer peer
@@ -108,7 +118,8 @@ none_put peer = record {
 }
 
 -- the legs and the count of steps don't matter
-pub puts_too : (load : Load) (old new : PeerView) (legs : PeerLegs) (accounts : Accounts) → dropped_for_room accounts ≡ dropped_for_room new.accounts
+pub puts_too : (load : Load) (old new : PeerView) (legs : PeerLegs) (accounts : Accounts)
+    → dropped_for_room accounts ≡ dropped_for_room new.accounts
     → Puts load old new → Puts load old (record new { legs = legs; accounts = accounts })
 puts_too load old new legs accounts same puts = record {
   rules = puts.rules;
@@ -121,18 +132,21 @@ puts_too load old new legs accounts same puts = record {
 
 -- ---- sent datagrams
 
-pub put_puts : (peer : PeerView) (datagrams : List (List ℕ)) → Puts (load_of (length datagrams)) peer (record peer { outbox = put peer.outbox datagrams })
+pub put_puts : (peer : PeerView) (datagrams : List (List ℕ))
+    → Puts (load_of (length datagrams)) peer (record peer { outbox = put peer.outbox datagrams })
 put_puts peer datagrams =
     both (load_of (length datagrams)) peer (record peer { outbox = put peer.outbox datagrams }) (put_adds peer datagrams)
     (record { rules = refl; entries = omega arith; octets = omega arith; queued = λ _. refl })
 
-flush_queues : (goes : Bool) (peer : PeerView) (queue : List QueueEntry) → Queues no_load (record peer { queue = queue }) (flushed_if goes (record peer { queue = queue }))
+flush_queues : (goes : Bool) (peer : PeerView) (queue : List QueueEntry) → Queues no_load (record peer { queue = queue })
+    (flushed_if goes (record peer { queue = queue }))
 flush_queues false peer queue = record { rules = refl; entries = omega arith; octets = omega arith; queued = λ _. refl }
 flush_queues true peer [] = record { rules = refl; entries = omega arith; octets = omega arith; queued = λ _. refl }
 flush_queues true peer (e ∷ queue) = record { rules = refl; entries = omega arith; octets = omega arith; queued = λ _. refl }
 
 pub flush_puts : (goes : Bool) (peer : PeerView) → Puts no_load peer (flushed_if goes peer)
-flush_puts goes peer = both no_load peer (flushed_if goes peer) (flush_adds goes peer peer.queue) (flush_queues goes peer peer.queue)
+flush_puts goes peer = both no_load peer (flushed_if goes peer) (flush_adds goes peer peer.queue)
+    (flush_queues goes peer peer.queue)
 
 dropped_flushed : (goes : Bool) (p : PeerView) (queue : List QueueEntry)
     → dropped_for_room (flushed_if goes (record p { queue = queue })).accounts ≡ dropped_for_room p.accounts
@@ -140,7 +154,8 @@ dropped_flushed false p queue = refl
 dropped_flushed true p [] = refl
 dropped_flushed true p (e ∷ queue) = refl
 
-pub sent_puts : (peer : PeerView) (number : ℕ) (datagrams : List (List ℕ)) → Puts (load_of (length datagrams)) peer (with_sent peer number datagrams)
+pub sent_puts : (peer : PeerView) (number : ℕ) (datagrams : List (List ℕ))
+    → Puts (load_of (length datagrams)) peer (with_sent peer number datagrams)
 sent_puts peer number datagrams =
     let goes = has_any datagrams && goes_ahead peer.rules peer.queue number in
     let queues = flush_queues goes peer peer.queue in
@@ -163,11 +178,13 @@ neither true b first second = first
 neither false b first second = second
 
 -- few entries and few octets leave room
-has_space : (queue : List QueueEntry) (octets : ℕ) → length queue + 1 ≤ 256 → media_octets queue + octets ≤ 16384 → is_full_for queue octets ≡ false
+has_space : (queue : List QueueEntry) (octets : ℕ) → length queue + 1 ≤ 256 → media_octets queue + octets ≤ 16384
+    → is_full_for queue octets ≡ false
 has_space queue octets few short =
     neither (nat_le 256 (length queue)) (nat_lt 16384 (media_octets queue + octets))
     (not_so (nat_le 256 (length queue)) (λ e. absurd (omega (arith, leb-true 256 (length queue) e, few))))
-    (not_so (nat_lt 16384 (media_octets queue + octets)) (λ e. absurd (omega (arith, ltb-true 16384 (media_octets queue + octets) e, short))))
+    (not_so (nat_lt 16384 (media_octets queue + octets))
+    (λ e. absurd (omega (arith, ltb-true 16384 (media_octets queue + octets) e, short))))
 
 abbrev media_load : ℕ → Load
 media_load octets = record { datagrams = 1; octets = octets }
@@ -189,7 +206,8 @@ more_octets (x ∷ queue) e = omega (arith, more_octets queue e)
 entry_queues : (peer : PeerView) (entry : QueueEntry) (now : ℕ) (full : Bool)
     → ((QueueHasRoom peer (media_load (length entry.media))) → full ≡ false)
     → Queues (media_load (length entry.media)) peer
-    (cond full (carried_media peer Dropped (length entry.media)) (carried_media (with_entry peer entry now) QueuedMedia (length entry.media)))
+    (cond full (carried_media peer Dropped (length entry.media)) (carried_media (with_entry peer entry now) QueuedMedia
+    (length entry.media)))
 entry_queues peer entry now true roomy = record {
   rules = refl;
   entries = omega arith;
@@ -211,9 +229,12 @@ waiting_queues : (peer : PeerView) (entry : QueueEntry) (now : ℕ) → peer.rul
 waiting_queues peer entry now trunk short =
     let next = begins_next peer.rules peer.queue entry.number (length entry.media) in
     let flushed : PeerView = flushed_if next peer in
-    queues_less (plus no_load (media_load (length entry.media))) (media_load (length entry.media)) peer (waiting_media peer entry now) (omega arith) (omega arith)
-    (then_queues no_load (media_load (length entry.media)) peer flushed (waiting_media peer entry now) (flush_queues next peer peer.queue)
-    (entry_queues flushed entry now (is_full_for flushed.queue (length entry.media)) (isnt_full peer entry.number (length entry.media) trunk short)))
+    queues_less (plus no_load (media_load (length entry.media))) (media_load (length entry.media)) peer
+    (waiting_media peer entry now) (omega arith) (omega arith)
+    (then_queues no_load (media_load (length entry.media)) peer flushed (waiting_media peer entry now)
+    (flush_queues next peer peer.queue)
+    (entry_queues flushed entry now (is_full_for flushed.queue (length entry.media))
+    (isnt_full peer entry.number (length entry.media) trunk short)))
 
 short_queues : (peer : PeerView) (number timestamp : ℕ) (media : List ℕ) (now : ℕ) → length media ≤ 1380
     → Queues (media_load (length media)) peer (short_media peer number timestamp media now)
@@ -222,7 +243,8 @@ short_queues peer number timestamp media now short =
     let datagram : List ℕ = mini_spelling (record { source = number; timestamp = timestamp; media = media }) in
     let out : PeerView = carried_media (with_datagram peer datagram) Packed (length media) in
     elim (cases_Bool peer.rules.trunk) [
-      | inl e ↦ subst (λ (b : Bool). Queues (media_load (length media)) peer (cond b (waiting_media peer entry now) out)) (sym e) (waiting_queues peer entry now e short)
+      | inl e ↦ subst (λ (b : Bool). Queues (media_load (length media)) peer (cond b (waiting_media peer entry now) out)) (sym e)
+          (waiting_queues peer entry now e short)
       | inr e ↦ subst (λ (b : Bool). Queues (media_load (length media)) peer (cond b (waiting_media peer entry now) out)) (sym e)
           (record { rules = refl; entries = omega arith; octets = omega arith; queued = λ _. refl })
     ]
@@ -248,15 +270,18 @@ carries_queues sent.Voice peer named media now short =
       queued = λ _. dropped_flushed (goes_ahead peer.rules peer.queue named.name.number) peer peer.queue;
     }
 carries_queues (sent.Mini timestamp) peer named media now short =
-    let queues = short_queues (with_media (sent.Mini timestamp) peer named media now) named.name.number timestamp media now short in
+    let queues = short_queues (with_media (sent.Mini timestamp) peer named media now) named.name.number timestamp media now
+    short in
     record { rules = queues.rules; entries = queues.entries; octets = queues.octets; queued = queues.queued }
 
 -- ---- orders
 
-carried_puts : (load : Load) (peer : PeerView) (named : NamedLeg) (carried : OrderCarried) → length carried.datagrams ≤ load.datagrams
+carried_puts : (load : Load) (peer : PeerView) (named : NamedLeg) (carried : OrderCarried)
+    → length carried.datagrams ≤ load.datagrams
     → Puts load peer (with_order peer named carried)
 carried_puts load peer named carried few =
-    let puts = puts_less (load_of (length carried.datagrams)) load peer (with_sent peer named.name.number carried.datagrams) few (omega arith)
+    let puts = puts_less (load_of (length carried.datagrams)) load peer (with_sent peer named.name.number carried.datagrams) few
+    (omega arith)
     (sent_puts peer named.name.number carried.datagrams) in
     puts_too load peer (with_sent peer named.name.number carried.datagrams)
     (with_leg (with_sent peer named.name.number carried.datagrams).legs named.name carried.leg)
@@ -269,7 +294,8 @@ row_few leg (Some row) now = omega arith
 by_row : (peer : PeerView) (named : NamedLeg) (order : Order) (now : ℕ)
     → Puts (load_of 1) peer (with_order peer named (row_carried named.leg (order_row named.leg order) now))
 by_row peer named order now =
-    carried_puts (load_of 1) peer named (row_carried named.leg (order_row named.leg order) now) (row_few named.leg (order_row named.leg order) now)
+    carried_puts (load_of 1) peer named (row_carried named.leg (order_row named.leg order) now)
+    (row_few named.leg (order_row named.leg order) now)
 
 order_puts : (peer : PeerView) (named : NamedLeg) (order : Order) (now : ℕ) → IsShortMedia order
     → Puts (order_load (kind_of order) (order_octets order)) peer (ordered_at peer named order now)
@@ -278,8 +304,10 @@ order_puts peer named (orders.Media media) now short =
     let puts = both (media_load (length media.now)) peer carried (media_adds (media_sent named.leg now) peer named media.now now)
     (carries_queues (media_sent named.leg now) peer named media.now now short.1) in
     puts_too (media_load (length media.now)) peer carried carried.legs (stepped carried.accounts) refl puts
-order_puts peer named (orders.Doom cause) now short = carried_puts no_load peer named (order_carried named.leg (orders.Doom cause) now) (omega arith)
-order_puts peer named orders.Paid now short = carried_puts no_load peer named (order_carried named.leg orders.Paid now) (omega arith)
+order_puts peer named (orders.Doom cause) now short = carried_puts no_load peer named (order_carried named.leg (orders.Doom cause)
+    now) (omega arith)
+order_puts peer named orders.Paid now short = carried_puts no_load peer named (order_carried named.leg orders.Paid now)
+    (omega arith)
 order_puts peer named (orders.Accept format) now short = by_row peer named (orders.Accept format) now
 order_puts peer named (orders.Reject cause) now short = by_row peer named (orders.Reject cause) now
 order_puts peer named (orders.Indicate indication) now short = by_row peer named (orders.Indicate indication) now
@@ -291,6 +319,8 @@ pub ordered_puts : (peer : PeerView) (name : LegName) (order : Order) (now : ℕ
     → Puts (order_load (kind_of order) (order_octets order)) peer (ordered_step peer name order now)
 ordered_puts peer name order now short = at_leg (leg_named peer.legs name)
   where
-    at_leg : (named : Option NamedLeg) → Puts (order_load (kind_of order) (order_octets order)) peer (ordered_if peer named order now)
-    at_leg None = puts_less no_load (order_load (kind_of order) (order_octets order)) peer peer (omega arith) (omega arith) (none_put peer)
+    at_leg : (named : Option NamedLeg) → Puts (order_load (kind_of order) (order_octets order)) peer
+        (ordered_if peer named order now)
+    at_leg None = puts_less no_load (order_load (kind_of order) (order_octets order)) peer peer (omega arith) (omega arith)
+        (none_put peer)
     at_leg (Some named) = order_puts peer named order now short

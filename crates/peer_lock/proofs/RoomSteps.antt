@@ -1,6 +1,7 @@
 -- The loads that datagrams, openings, ticks and the removal of a leg put into a peer's outbox and trunk queue.
 use Rattle.std.specs.Prelude.{map, nat_lt}
-use Rattle.std.proofs.Common.{◌≡◌, ◌≤◌, ℕ, ◌+◌, ◌&&◌, Bool, false, cond, List, [], ◌∷◌, ◌++◌, Option, None, Some, length, ap, sym, subst, refl, arith}
+use Rattle.std.proofs.Common.{◌≡◌, ◌≤◌, ℕ, ◌+◌, ◌&&◌, Bool, false, cond, List, [], ◌∷◌, ◌++◌, Option, None, Some, length, ap, sym}
+use Rattle.std.proofs.Common.{subst, refl, arith}
 use Rattle.std.proofs.lemmas.List.{length-append, length-map}
 use Rattle.call_book.specs.declared.leg_name.LegName.{LegName}
 use Rattle.call_signals.specs.Message.{message_of, is_inval, is_numbered, is_vnak}
@@ -17,15 +18,19 @@ use Rattle.leg_machine.specs.Effects.{is_reply}
 use Rattle.leg_machine.specs.Leg.{LegState}
 use Rattle.leg_machine.specs.LegTable.{effect_of}
 use Rattle.leg_machine.specs.Openings.{leg_for_new, open_in_step, open_out_step, opening_effect, opening_of}
-use Rattle.leg_machine.specs.Steps.{Step, answers, answered, asking, full_step, gap_step, inval_step, invalidated, judged_step, message_step, no_room, not_asking, nothing_sent, numbered_step, prepared, taken, taken_step, vnak_step}
+use Rattle.leg_machine.specs.Steps.{Step, answers, answered, asking, full_step, gap_step, inval_step, invalidated, judged_step}
+use Rattle.leg_machine.specs.Steps.{message_step, no_room, not_asking, nothing_sent, numbered_step, prepared, taken, taken_step}
+use Rattle.leg_machine.specs.Steps.{vnak_step}
 use Rattle.leg_machine.specs.Working.{heeds_inval, wants_vnak}
 use Rattle.outbox.specs.Outbox.{put}
 use Rattle.peer_accounts.specs.Accounts.{stepped, with_accepted}
 use Rattle.peer_accounts.specs.Grants.{granted}
 use Rattle.peer_legs.specs.Legs.{NamedLeg, with_leg, with_place}
 use Rattle.peer_lock.specs.Arrivals.{MediaTaken, answering, datagram_step, delivered_step, media_step, mini_media, trunk_media}
-use Rattle.peer_lock.specs.Delivery.{Delivery, Reaches, NeedsNumber, NoToken, Gets, Pongs, NoCall, answer_octets, delivery, reject_for}
-use Rattle.peer_lock.specs.Loads.{Load, Puts, datagram_load, delivered_load, dropped_for_room, frames_packed, load_of, no_load, plus, tick_load}
+use Rattle.peer_lock.specs.Delivery.{Delivery, Reaches, NeedsNumber, NoToken, Gets, Pongs, NoCall, answer_octets, delivery}
+use Rattle.peer_lock.specs.Delivery.{reject_for}
+use Rattle.peer_lock.specs.Loads.{Load, Puts, datagram_load, delivered_load, dropped_for_room, frames_packed, load_of, no_load}
+use Rattle.peer_lock.specs.Loads.{plus, tick_load}
 use Rattle.peer_lock.specs.Openings.{opens_in, opens_out, rejects_new, with_opened, with_seated}
 use Rattle.peer_lock.specs.Peer.{PeerView, counted, flushed_if, with_datagram, with_sent, with_step, without_leg}
 use Rattle.peer_lock.specs.Pokes.{answered as pokes_answered, pokes_after, pokes_sent}
@@ -43,7 +48,8 @@ use Rattle.trunk_packer.specs.Queue.{QueueEntry}
 
 -- ---- few answers
 
-answers_few : (answering : Answering) (leg : LegState) (frame : FullFrame) (now : ℕ) → length (answers leg frame now answering) ≤ 1
+answers_few : (answering : Answering) (leg : LegState) (frame : FullFrame) (now : ℕ) → length (answers leg frame now answering)
+    ≤ 1
 answers_few (answerings.Answered reply) leg frame now = omega arith
 answers_few answerings.Acknowledged leg frame now = omega arith
 answers_few answerings.Silent leg frame now = omega arith
@@ -57,7 +63,8 @@ taken_few effect leg frame message now =
 
 gap_few : (leg : LegState) (frame : FullFrame) (now : ℕ) → length (gap_step leg frame now).replies ≤ 1
 gap_few leg frame now =
-    either (λ (s : Step). length s.replies ≤ 1) (wants_vnak leg now) (asking leg frame now) (not_asking leg) (omega arith) (omega arith)
+    either (λ (s : Step). length s.replies ≤ 1) (wants_vnak leg now) (asking leg frame now) (not_asking leg) (omega arith)
+    (omega arith)
 
 judged_few : (judged : Received) (leg : LegState) (frame : FullFrame) (message : Message) (now : ℕ)
     → length (judged_step judged leg frame message now).replies ≤ 1
@@ -65,7 +72,8 @@ judged_few received.Taken leg frame message now = taken_few (effect_of leg frame
 judged_few received.Repeat leg frame message now = omega arith
 judged_few received.Gap leg frame message now = gap_few leg frame now
 
-pub numbered_few : (leg : LegState) (frame : FullFrame) (message : Message) (now : ℕ) → length (numbered_step leg frame message now).replies ≤ 1
+pub numbered_few : (leg : LegState) (frame : FullFrame) (message : Message) (now : ℕ)
+    → length (numbered_step leg frame message now).replies ≤ 1
 numbered_few leg frame message now =
     either (λ (s : Step). length s.replies ≤ 1) (is_numbered message)
     (judged_step (judged_number leg.window.history frame.head.oseqno) leg frame message now) (nothing_sent leg)
@@ -73,18 +81,23 @@ numbered_few leg frame message now =
 
 pub inval_few : (leg : LegState) (frame : FullFrame) (now : ℕ) → length (inval_step leg frame now).replies ≤ 1
 inval_few leg frame now =
-    either (λ (s : Step). length s.replies ≤ 1) (heeds_inval leg frame) (invalidated leg now) (nothing_sent leg) (omega arith) (omega arith)
+    either (λ (s : Step). length s.replies ≤ 1) (heeds_inval leg frame) (invalidated leg now) (nothing_sent leg) (omega arith)
+    (omega arith)
 
 message_few : (message : Message) (leg : LegState) (frame : FullFrame) (now : ℕ) → is_vnak message ≡ false
     → length (message_step message leg frame now).replies ≤ 1
 message_few message leg frame now other =
     let numbered : Step = numbered_step (prepared leg frame) frame message now in
-    let asked : Step = vnak_step (judged_acknowledgement leg.window.history frame.head.iseqno) (prepared leg frame) frame.head.iseqno now in
-    either (λ (s : Step). length s.replies ≤ 1) (is_inval message) (inval_step leg frame now) (cond (is_vnak message) asked numbered)
+    let asked : Step = vnak_step (judged_acknowledgement leg.window.history frame.head.iseqno) (prepared leg frame)
+    frame.head.iseqno now in
+    either (λ (s : Step). length s.replies ≤ 1) (is_inval message) (inval_step leg frame now)
+    (cond (is_vnak message) asked numbered)
     (inval_few leg frame now)
-    (subst (λ (b : Bool). length (cond b asked numbered).replies ≤ 1) (sym other) (numbered_few (prepared leg frame) frame message now))
+    (subst (λ (b : Bool). length (cond b asked numbered).replies ≤ 1) (sym other) (numbered_few (prepared leg frame) frame message
+    now))
 
-delivered_few : (to : Delivery) (frame : FullFrame) (now : ℕ) → is_vnak (message_of frame.head) ≡ false → (delivered_load to frame now).datagrams ≤ 1
+delivered_few : (to : Delivery) (frame : FullFrame) (now : ℕ) → is_vnak (message_of frame.head) ≡ false
+    → (delivered_load to frame now).datagrams ≤ 1
 delivered_few (Reaches named) frame now other = message_few (message_of frame.head) named.leg frame now other
 delivered_few NeedsNumber frame now other = omega arith
 delivered_few NoToken frame now other = omega arith
@@ -135,7 +148,8 @@ delivered_puts first peer (Reaches named) frame now =
     let octets : ℕ = (granted first peer.accounts.accepted s.signal).octets in
     puts_less (load_of (length datagrams)) (load_of (length s.replies)) peer (with_step peer named.name s.leg datagrams octets)
     (omega (arith, length-map s.replies spelling)) (omega arith)
-    (puts_too (load_of (length datagrams)) peer with (with_leg with.legs named.name s.leg) (with_accepted (stepped with.accounts) octets) refl
+    (puts_too (load_of (length datagrams)) peer with (with_leg with.legs named.name s.leg)
+    (with_accepted (stepped with.accounts) octets) refl
     (sent_puts peer named.name.number datagrams))
 delivered_puts first peer NeedsNumber frame now = nothing_put peer
 delivered_puts first peer NoToken frame now = nothing_put peer
@@ -154,10 +168,13 @@ datagram_puts first peer (Trunk trunk) now = media_puts peer (trunk_media first 
 
 -- ---- openings
 
-opened_puts : (peer : PeerView) (named : NamedLeg) (datagrams : List (List ℕ)) → length datagrams ≤ 1 → Puts (load_of 1) peer (with_opened peer named datagrams)
+opened_puts : (peer : PeerView) (named : NamedLeg) (datagrams : List (List ℕ)) → length datagrams ≤ 1
+    → Puts (load_of 1) peer (with_opened peer named datagrams)
 opened_puts peer named datagrams few =
-    puts_too (load_of 1) peer (record peer { outbox = put peer.outbox datagrams }) (with_seated peer named).legs (stepped peer.accounts) refl
-    (puts_less (load_of (length datagrams)) (load_of 1) peer (record peer { outbox = put peer.outbox datagrams }) few (omega arith) (put_puts peer datagrams))
+    puts_too (load_of 1) peer (record peer { outbox = put peer.outbox datagrams }) (with_seated peer named).legs
+    (stepped peer.accounts) refl
+    (puts_less (load_of (length datagrams)) (load_of 1) peer (record peer { outbox = put peer.outbox datagrams }) few
+    (omega arith) (put_puts peer datagrams))
 
 pub call_in_puts : (peer : PeerView) (name : LegName) (frame : FullFrame) (now : ℕ) (challenge : List ℕ)
     → Puts (load_of 1) peer (opens_in peer name frame now challenge).peer
@@ -167,7 +184,8 @@ call_in_puts peer name frame now challenge =
     (omega (
       arith,
       length-map s.replies spelling,
-      taken_few (opening_effect (opening_of peer.rules frame)) (leg_for_new peer.rules name.number frame now challenge) frame New now,
+      taken_few (opening_effect (opening_of peer.rules frame)) (leg_for_new peer.rules name.number frame now challenge) frame New
+          now,
     ))
 
 pub rejection_puts : (peer : PeerView) (frame : FullFrame) → Puts (load_of 1) peer (rejects_new peer frame).peer
@@ -196,13 +214,15 @@ any_less (o ∷ old) (e ∷ new) less = omega arith
 fronts_shorter : (timed : Bool) (now : ℕ) (old : List QueueEntry) (datagrams : List (List ℕ)) (new : List QueueEntry)
     → PacksFronts timed now old datagrams new → length new ≤ length old
 fronts_shorter timed now old [] new packs = omega (arith, ap (λ (q : List QueueEntry). length q) packs)
-fronts_shorter timed now old (datagram ∷ datagrams) new packs = omega (arith, packs.2, fronts_shorter timed now packs.0 datagrams new packs.3)
+fronts_shorter timed now old (datagram ∷ datagrams) new packs =
+    omega (arith, packs.2, fronts_shorter timed now packs.0 datagrams new packs.3)
 
 packs_puts : (wait : Option ℕ) (old : PeerView) (now octets : ℕ) (new : PeerView) (packs : Packs wait old now octets new)
     → Puts (load_of (frames_packed wait old now octets new packs)) old new
 packs_puts None old now octets new packs =
     let shorter = fronts_shorter old.rules.trunk_timestamps now old.queue packs.datagrams new.queue packs.fronts in
-    let longer : length new.outbox.waiting ≡ length (old.outbox.waiting ++ packs.datagrams) = ap (λ (p : PeerView). length p.outbox.waiting) packs.rest in
+    let longer : length new.outbox.waiting ≡ length (old.outbox.waiting ++ packs.datagrams) =
+    ap (λ (p : PeerView). length p.outbox.waiting) packs.rest in
     record {
       rules = ap (λ (p : PeerView). p.rules) packs.rest;
       most = omega (arith, any_less old.queue new.queue shorter, longer, length-append old.outbox.waiting packs.datagrams);
@@ -231,7 +251,8 @@ tick_puts old now report new ticks =
     let packed : ℕ = frames_packed ticks.between.rules.trunk_ms ticks.between now ticks.octets new ticks.packs in
     let poke : Puts (load_of pokes) old first =
     puts_pokes (load_of pokes) old (record (counted old) { outbox = put old.outbox sent }) (pokes_after old.rules old.pokes now)
-    (puts_too (load_of pokes) old (record old { outbox = put old.outbox sent }) old.legs (stepped old.accounts) refl (put_puts old sent)) in
+    (puts_too (load_of pokes) old (record old { outbox = put old.outbox sent }) old.legs (stepped old.accounts) refl
+    (put_puts old sent)) in
     let ahead : Puts (plus (load_of pokes) no_load) old flushed =
     then_puts (load_of pokes) no_load old first flushed poke
     (flush_puts (has_any all.datagrams && waits first.rules) first) in
@@ -242,6 +263,7 @@ tick_puts old now report new ticks =
     let legs : Puts (plus before (load_of sends)) old ticks.between =
     subst (λ (p : PeerView). Puts (plus before (load_of sends)) old p) (sym ticks.legs.legs)
     (then_puts before (load_of sends) old flushed stepped_legs ahead out) in
-    puts_less (plus (plus before (load_of sends)) (load_of packed)) (load_of (pokes + sends + packed)) old new (omega arith) (omega arith)
+    puts_less (plus (plus before (load_of sends)) (load_of packed)) (load_of (pokes + sends + packed)) old new (omega arith)
+    (omega arith)
     (then_puts (plus before (load_of sends)) (load_of packed) old ticks.between new legs
     (packs_puts ticks.between.rules.trunk_ms ticks.between now ticks.octets new ticks.packs))

@@ -1,6 +1,7 @@
 -- The visible effect of a step in which a datagram comes.
 use Rattle.std.specs.Prelude.{◌&&◌, option_map, map}
-use Rattle.std.proofs.Common.{◌≡◌, ℕ, ◌+◌, ◌==◌, nat_le, Bool, true, false, inl, inr, List, [], ◌∷◌, ◌++◌, Option, Some, None, refl, sym, ap, ◌∙◌}
+use Rattle.std.proofs.Common.{◌≡◌, ℕ, ◌+◌, ◌==◌, nat_le, Bool, true, false, inl, inr, List, [], ◌∷◌, ◌++◌, Option, Some, None}
+use Rattle.std.proofs.Common.{refl, sym, ap, ◌∙◌}
 use Rattle.std.proofs.lemmas.Bool.{cases_Bool}
 use Rattle.std.proofs.lemmas.List.{append_assoc}
 use Rattle.call_book.specs.declared.leg_name.LegName.{LegName}
@@ -10,7 +11,9 @@ use Rattle.iax_frames.specs.declared.datagram.Datagram.TheVariants.{Full, Mini, 
 use Rattle.iax_frames.specs.TrunkFrame.{entry_item, is_timed}
 use Rattle.leg_machine.specs.Leg.{LegState}
 use Rattle.leg_machine.specs.Media.{accepts_media, took_voice}
-use Rattle.leg_machine.specs.Seen.{SeenLeg, SeenFrame, Plain, ProvesItself, FailsToProve, AcceptsCall, RejectsCall, BreaksOff, Indicates, AnswersCall, Dials, Speaks, HangsUp, AcknowledgesAll, seen, moved, frame_effect, IsSeenFrame}
+use Rattle.leg_machine.specs.Seen.{SeenLeg, SeenFrame, Plain, ProvesItself, FailsToProve, AcceptsCall, RejectsCall, BreaksOff}
+use Rattle.leg_machine.specs.Seen.{Indicates, AnswersCall, Dials, Speaks, HangsUp, AcknowledgesAll, seen, moved, frame_effect}
+use Rattle.leg_machine.specs.Seen.{IsSeenFrame}
 use Rattle.leg_machine.specs.LegTable.{is_media}
 use Rattle.leg_machine.specs.Signal.{span_len}
 use Rattle.leg_machine.specs.Stage.{is_talking}
@@ -22,7 +25,8 @@ use Rattle.call_signals.specs.declared.stage.Stage.{Stage}
 use Rattle.call_signals.specs.declared.stage.Stage.TheVariants as stages
 use Rattle.peer_lock.specs.Arrivals.{delivered_step, reached_step, datagram_step, media_at, mini_span, entries_media, entry_span}
 use Rattle.peer_legs.specs.Finding.{found, if_reached, is_reached}
-use Rattle.peer_lock.specs.Delivery.{Delivery, NeedsNumber, NoToken, Gets, Pongs, NoCall, delivered, drained_for, inval_for, legless, pong_for, regrej_for, token_for}
+use Rattle.peer_lock.specs.Delivery.{Delivery, NeedsNumber, NoToken, Gets, Pongs, NoCall, delivered, drained_for, inval_for}
+use Rattle.peer_lock.specs.Delivery.{legless, pong_for, regrej_for, token_for}
 use Rattle.peer_legs.specs.Legs.{NamedLeg, PeerLegs, AreLegs, leg_at, leg_of_remote}
 use Rattle.peer_accounts.specs.Grants.{granted}
 use Rattle.peer_lock.specs.Peer.{PeerView, PeerStep, handed_up}
@@ -33,12 +37,14 @@ use Rattle.peer_lock.proofs.SeenChanges.{leg_turns, own_number, remote_named}
 
 -- the law of a leg's full frames
 abbrev pub FramesAreSeen : Type 0
-FramesAreSeen = (leg : LegState) (frame : FullFrame) (now : ℕ) → IsSeenFrame (seen leg) (seen (full_step leg frame now).leg) (full_step leg frame now).signal
+FramesAreSeen = (leg : LegState) (frame : FullFrame) (now : ℕ) → IsSeenFrame (seen leg) (seen (full_step leg frame now).leg)
+    (full_step leg frame now).signal
 
 -- ---- credit
 
 -- a frame that hands media up leaves the stage as it is
-media_keeps : (frame : SeenFrame) (stage : Stage) (span : MediaSpan) → (frame_effect frame stage).signal ≡ Some (signals.Media span)
+media_keeps : (frame : SeenFrame) (stage : Stage) (span : MediaSpan) → (frame_effect frame stage).signal
+    ≡ Some (signals.Media span)
     → (frame_effect frame stage).stage ≡ stage
 media_keeps Plain stage span e = refl
 media_keeps ProvesItself stages.Challenged span e = cc
@@ -85,7 +91,8 @@ granted_seen old new first accepted (Some (signals.Media span)) s = elim (cases_
 
 -- ---- full frames
 
-reached_is : (legs : PeerLegs) (source : ℕ) (o : Option NamedLeg) (named : NamedLeg) → if_reached legs source o ≡ Some named → o ≡ Some named
+reached_is : (legs : PeerLegs) (source : ℕ) (o : Option NamedLeg) (named : NamedLeg) → if_reached legs source o ≡ Some named
+    → o ≡ Some named
 reached_is legs source None named is = cc
 reached_is legs source (Some one) named is = elim (cases_Bool (is_reached legs source one)) [
   | inl e ↦ rw e at is
@@ -121,10 +128,12 @@ reached_seen law first peer named frame now at =
       touched = refl;
     }
 
-nothing_seen : (old : PeerLegs) (step : PeerStep) → step.peer.legs ≡ old → step.signals ≡ [] → step.step.touched ≡ None → IsSeenDatagram old step
+nothing_seen : (old : PeerLegs) (step : PeerStep) → step.peer.legs ≡ old → step.signals ≡ [] → step.step.touched ≡ None
+    → IsSeenDatagram old step
 nothing_seen old step same none untouched = inr (record { same = same; media = []; signals = none; touched = untouched })
 
-unknown_seen : (first : ℕ) (peer : PeerView) (frame : FullFrame) (now : ℕ) → IsSeenDatagram peer.legs (delivered_step first peer (legless peer.drains peer.rules peer.pokes frame now) frame now)
+unknown_seen : (first : ℕ) (peer : PeerView) (frame : FullFrame) (now : ℕ)
+    → IsSeenDatagram peer.legs (delivered_step first peer (legless peer.drains peer.rules peer.pokes frame now) frame now)
 unknown_seen first peer frame now =
     let P : Delivery → Type 0 = λ d. IsSeenDatagram peer.legs (delivered_step first peer d frame now) in
     let needs : P NeedsNumber = nothing_seen peer.legs _ refl refl refl in
@@ -132,18 +141,22 @@ unknown_seen first peer frame now =
     let no_token : P NoToken = nothing_seen peer.legs _ refl refl refl in
     let no_call : P NoCall = nothing_seen peer.legs _ refl refl refl in
     let pongs : P Pongs = nothing_seen peer.legs _ refl refl refl in
-    of_each P peer.drains peer.rules peer.pokes frame now needs no_token no_call pongs (gets (inval_for frame.head)) (gets (pong_for frame.head)) (gets (regrej_for frame.head))
+    of_each P peer.drains peer.rules peer.pokes frame now needs no_token no_call pongs (gets (inval_for frame.head))
+    (gets (pong_for frame.head)) (gets (regrej_for frame.head))
     (gets (drained_for frame.head))
     (λ tokens. gets (token_for tokens frame.head now))
 
-full_seen : (law : FramesAreSeen) (first : ℕ) (peer : PeerView) (frame : FullFrame) (now : ℕ) (o : Option NamedLeg) → AreLegs peer.legs → found peer.legs frame ≡ o
+full_seen : (law : FramesAreSeen) (first : ℕ) (peer : PeerView) (frame : FullFrame) (now : ℕ) (o : Option NamedLeg)
+    → AreLegs peer.legs → found peer.legs frame ≡ o
     → IsSeenDatagram peer.legs (delivered_step first peer (delivered peer.drains peer.rules peer.pokes o frame now) frame now)
-full_seen law first peer frame now (Some named) are is = inl (reached_seen law first peer named frame now (found_named peer.legs frame named are is))
+full_seen law first peer frame now (Some named) are is =
+    inl (reached_seen law first peer named frame now (found_named peer.legs frame named are is))
 full_seen law first peer frame now None are is = unknown_seen first peer frame now
 
 -- ---- media
 
-talking_speaks : (stage : Stage) (span : MediaSpan) → is_talking stage ≡ true → (frame_effect (Speaks span) stage).signal ≡ Some (signals.Media span)
+talking_speaks : (stage : Stage) (span : MediaSpan) → is_talking stage ≡ true → (frame_effect (Speaks span) stage).signal
+    ≡ Some (signals.Media span)
 talking_speaks stages.Linked span e = refl
 talking_speaks stages.Up span e = refl
 talking_speaks stages.Challenged span e = cc
@@ -162,18 +175,22 @@ and_first false b e = cc
 
 talks : (leg : LegState) (span : MediaSpan) → accepts_media leg span ≡ true → is_talking leg.stage ≡ true
 talks leg span e =
-    and_first (is_talking leg.stage) (took_voice leg) (and_first (is_talking leg.stage && took_voice leg) (is_media (span_len span)) e)
+    and_first (is_talking leg.stage) (took_voice leg) (and_first (is_talking leg.stage && took_voice leg)
+    (is_media (span_len span)) e)
 
-one_media : (legs : PeerLegs) (named : NamedLeg) (span : MediaSpan) → leg_at legs named.name.number ≡ Some named → is_talking named.leg.stage ≡ true
+one_media : (legs : PeerLegs) (named : NamedLeg) (span : MediaSpan) → leg_at legs named.name.number ≡ Some named
+    → is_talking named.leg.stage ≡ true
     → IsMedia legs ((named.name, signals.Media span) ∷ [])
 one_media legs named span at talks =
     let there : seen_at legs named.name.number ≡ Some (seen_named named) = ap (option_map seen_named) at in
     let speaks = talking_speaks named.leg.stage span talks in
-    let up : media_up (seen_at legs named.name.number) span ≡ (named.name, signals.Media span) ∷ [] = rw there (ap (handed_up named.name) speaks) in
+    let up : media_up (seen_at legs named.name.number) span ≡ (named.name, signals.Media span) ∷ [] =
+    rw there (ap (handed_up named.name) speaks) in
     ((named.name.number, span) ∷ [], sym (ap (λ (xs : List (LegName × Signal)). xs ++ []) up))
 
 media_at_seen : (legs : PeerLegs) (first accepted : ℕ) (o : Option NamedLeg) (span : MediaSpan)
-    → ((named : NamedLeg) → o ≡ Some named → leg_at legs named.name.number ≡ Some named) → IsMedia legs (media_at first accepted o span).signals
+    → ((named : NamedLeg) → o ≡ Some named → leg_at legs named.name.number ≡ Some named)
+    → IsMedia legs (media_at first accepted o span).signals
 media_at_seen legs first accepted None span there = ([], refl)
 media_at_seen legs first accepted (Some named) span there = elim (cases_Bool (accepts_media named.leg span)) [
   | inr e ↦ rw e ([], refl)
@@ -189,7 +206,8 @@ media_append legs (one ∷ a) b =
     ap (λ (rest : List (LegName × Signal)). media_up (seen_at legs one.0) one.1 ++ rest) (media_append legs a b)
     ∙ sym (append_assoc (media_up (seen_at legs one.0) one.1) (all_media legs a) (all_media legs b))
 
-both_media : (legs : PeerLegs) (one other : List (LegName × Signal)) → IsMedia legs one → IsMedia legs other → IsMedia legs (one ++ other)
+both_media : (legs : PeerLegs) (one other : List (LegName × Signal)) → IsMedia legs one → IsMedia legs other
+    → IsMedia legs (one ++ other)
 both_media legs one other a b = (a.0 ++ b.0, (λ i. a.1 i ++ b.1 i) ∙ sym (media_append legs a.0 b.0))
 
 remote_media : (legs : PeerLegs) (first accepted source : ℕ) (span : MediaSpan) → AreLegs legs
@@ -197,7 +215,8 @@ remote_media : (legs : PeerLegs) (first accepted source : ℕ) (span : MediaSpan
 remote_media legs first accepted source span are =
     media_at_seen legs first accepted (leg_of_remote legs source) span (λ named is. remote_named legs source named are is)
 
-entries_seen : (legs : PeerLegs) (first : ℕ) (timed : Bool) (at accepted : ℕ) (entries : List (ℕ × Option ℕ × List ℕ)) → AreLegs legs
+entries_seen : (legs : PeerLegs) (first : ℕ) (timed : Bool) (at accepted : ℕ) (entries : List (ℕ × Option ℕ × List ℕ))
+    → AreLegs legs
     → IsMedia legs (entries_media first legs timed at accepted entries).signals
 entries_seen legs first timed at accepted [] are = ([], refl)
 entries_seen legs first timed at accepted (entry ∷ entries) are =
@@ -205,7 +224,8 @@ entries_seen legs first timed at accepted (entry ∷ entries) are =
     (entries_seen legs first timed (entry_span timed at entry).end
     (accepted + (media_at first accepted (leg_of_remote legs entry.0) (entry_span timed at entry)).octets) entries are)
 
-media_seen : (old : PeerLegs) (step : PeerStep) → step.peer.legs ≡ old → IsMedia old step.signals → step.step.touched ≡ None → IsSeenDatagram old step
+media_seen : (old : PeerLegs) (step : PeerStep) → step.peer.legs ≡ old → IsMedia old step.signals → step.step.touched ≡ None
+    → IsSeenDatagram old step
 media_seen old step same media untouched = inr (record { same = same; media = media.0; signals = media.1; touched = untouched })
 
 -- ---- the datagram

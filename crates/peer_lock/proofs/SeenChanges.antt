@@ -1,5 +1,6 @@
 -- The visible legs of a peer after one was added, changed or removed.
-use Rattle.std.proofs.Common.{◌≡◌, ◌≢◌, ℕ, zero, suc, ◌+◌, ◌-◌, ◌<◌, ◌≤◌, nat_le, true, inl, inr, List, [], ◌∷◌, length, Option, Some, None, slice_get, refl, ap, ◌∙◌, arith}
+use Rattle.std.proofs.Common.{◌≡◌, ◌≢◌, ℕ, zero, suc, ◌+◌, ◌-◌, ◌<◌, ◌≤◌, nat_le, true, inl, inr, List, [], ◌∷◌, length, Option}
+use Rattle.std.proofs.Common.{Some, None, slice_get, refl, ap, ◌∙◌, arith}
 use Rattle.std.specs.Prelude.{option_map}
 use Rattle.std.proofs.lemmas.Bool.{cases_Bool}
 use Rattle.std.proofs.lemmas.Bool.Decides.{nat_tests}
@@ -8,7 +9,8 @@ use Rattle.call_book.specs.Book.{is_same}
 use Rattle.call_book.specs.declared.leg_name.LegName.{LegName}
 use Rattle.leg_machine.specs.Leg.{LegState}
 use Rattle.leg_machine.specs.Seen.{seen}
-use Rattle.peer_legs.specs.Legs.{NamedLeg, PeerLegs, AreLegs, filled, leg_at, leg_named, if_named, first_remote, leg_of_remote, is_remote, with_leg, with_place}
+use Rattle.peer_legs.specs.Legs.{NamedLeg, PeerLegs, AreLegs, filled, leg_at, leg_named, if_named, first_remote, leg_of_remote}
+use Rattle.peer_legs.specs.Legs.{is_remote, with_leg, with_place}
 use Rattle.peer_legs.proofs.PlaceLaws.{slice_get-set_other, stands_at, leg_at_place, placed_there}
 use Rattle.peer_lock.specs.Seen.{seen_named, seen_at, TurnsAt}
 use Rattle.call_book.proofs.NameLaws.{is_same_itself, same_name}
@@ -20,18 +22,22 @@ pub record IsNamed (legs : PeerLegs) (name : LegName) (named : NamedLeg) : Type 
   pub at : leg_at legs name.number ≡ Some named
   pub is : named.name ≡ name
 
-named_is : (o : Option NamedLeg) (name : LegName) (named : NamedLeg) → if_named name o ≡ Some named → (o ≡ Some named) × (named.name ≡ name)
+named_is : (o : Option NamedLeg) (name : LegName) (named : NamedLeg) → if_named name o ≡ Some named → (o ≡ Some named) ×
+    (named.name ≡ name)
 named_is None name named is = cc
 named_is (Some other) name named is = elim (cases_Bool (is_same other.name name)) [
-  | inl e ↦ let here : Some other ≡ Some named = rw e at is in let both : other ≡ named = cc in (here, rw (← both) (same_name other.name name e))
+  | inl e ↦ let here : Some other ≡ Some named = rw e at is in let both : other ≡ named = cc in
+      (here, rw (← both) (same_name other.name name e))
   | inr e ↦ let never : None ≡ Some named = rw e at is in cc
 ]
 
 pub named_at : (legs : PeerLegs) (name : LegName) (named : NamedLeg) → leg_named legs name ≡ Some named → IsNamed legs name named
-named_at legs name named is = let found = named_is (leg_at legs name.number) name named is in record { at = found.0; is = found.1 }
+named_at legs name named is = let found = named_is (leg_at legs name.number) name named is in
+    record { at = found.0; is = found.1 }
 
 -- a name for which no leg was found has none
-pub none_named : (o : Option NamedLeg) (name : LegName) (named : NamedLeg) → if_named name o ≡ None → o ≡ Some named → named.name ≢ name
+pub none_named : (o : Option NamedLeg) (name : LegName) (named : NamedLeg) → if_named name o ≡ None → o ≡ Some named
+    → named.name ≢ name
 none_named None name named none at = cc
 none_named (Some other) name named none at = λ is.
     let both : other ≡ named = cc in
@@ -51,7 +57,8 @@ back : (first number : ℕ) → first ≤ number → first + (number - first) �
 back first number le = omega arith
 
 -- a leg is under its own number
-pub own_number : (legs : PeerLegs) (number : ℕ) (named : NamedLeg) → AreLegs legs → leg_at legs number ≡ Some named → named.name.number ≡ number
+pub own_number : (legs : PeerLegs) (number : ℕ) (named : NamedLeg) → AreLegs legs → leg_at legs number ≡ Some named
+    → named.name.number ≡ number
 own_number legs number named are at =
     let here = stands_at legs number named at in
     (are.named (number - legs.first) named here.place).1 ∙ back legs.first number here.first
@@ -82,11 +89,13 @@ pub placed_apart : (legs : PeerLegs) (number other : ℕ) (place : Option NamedL
 placed_apart legs number other place first ne = elim (cases_Bool (nat_le legs.first other)) [
   | inl e ↦
       let le : legs.first ≤ other = grind (arith, nat_tests) in
-      rw e (ap filled (slice_get-set_other legs.places (number - legs.first) (other - legs.first) place (apart legs.first number other first le ne)))
+      rw e (ap filled (slice_get-set_other legs.places (number - legs.first) (other - legs.first) place
+      (apart legs.first number other first le ne)))
   | inr e ↦ rw e refl
 ]
 
-pub placed_turns : (legs : PeerLegs) (number : ℕ) (place : Option NamedLeg) → legs.first ≤ number → number < legs.first + length legs.places
+pub placed_turns : (legs : PeerLegs) (number : ℕ) (place : Option NamedLeg) → legs.first ≤ number
+    → number < legs.first + length legs.places
     → TurnsAt legs (with_place legs number place) number (option_map seen_named place)
 placed_turns legs number place first within = record {
   peer = refl;
@@ -103,7 +112,8 @@ pub put_turns : (legs : PeerLegs) (number : ℕ) (named : NamedLeg) (place : Opt
 put_turns legs number named place at =
     let here = stands_at legs number named at in
     placed_turns legs number place here.first
-    (within legs.first number (length legs.places) here.first (slice_get_within legs.places (number - legs.first) (Some named) here.place))
+    (within legs.first number (length legs.places) here.first (slice_get_within legs.places (number - legs.first) (Some named)
+    here.place))
 
 -- a leg changes
 pub leg_turns : (legs : PeerLegs) (named : NamedLeg) (leg : LegState) → leg_at legs named.name.number ≡ Some named

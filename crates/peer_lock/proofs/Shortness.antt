@@ -1,11 +1,13 @@
 -- The greatest content of a datagram of at most 2,048 octets.
 use native.Mathlib.Omega.{arith}
-use Rattle.std.proofs.Common.{◌≡◌, ◌≤◌, ℕ, suc, ◌+◌, Bool, true, false, List, [], ◌∷◌, Option, Some, None, length, map, ap, ◌∙◌, subst, refl}
+use Rattle.std.proofs.Common.{◌≡◌, ◌≤◌, ℕ, suc, ◌+◌, Bool, true, false, List, [], ◌∷◌, Option, Some, None, length, map, ap, ◌∙◌}
+use Rattle.std.proofs.Common.{subst, refl}
 use Rattle.std.proofs.lemmas.List.{length-append}
 use Rattle.std.specs.List.{flat_map, AllByRecursion}
 use Rattle.iax_frames.specs.Datagram.{Spells}
 use Rattle.iax_frames.specs.MiniFrame.{MiniFrame, SpellsMini}
-use Rattle.iax_frames.specs.TrunkFrame.{TrunkEntry, TrunkFrame, SpellsTrunk, IsEntry, IsStamp, entry, entry_head, entry_item, trunk_head, head_len, is_timed}
+use Rattle.iax_frames.specs.TrunkFrame.{TrunkEntry, TrunkFrame, SpellsTrunk, IsEntry, IsStamp, entry, entry_head, entry_item}
+use Rattle.iax_frames.specs.TrunkFrame.{trunk_head, head_len, is_timed}
 use Rattle.iax_frames.specs.declared.datagram.Datagram.{Datagram}
 use Rattle.iax_frames.specs.declared.datagram.Datagram.TheVariants.{Full, Mini, Video, Trunk}
 use Rattle.peer_lock.specs.Arrivals.{entries_len}
@@ -18,13 +20,16 @@ head_is false e (Some t) here = absurd here
 head_is false e None here = refl
 
 one : (timed : Bool) (e : TrunkEntry) → IsEntry timed e → length (entry e) ≡ head_len timed + length e.media
-one timed e here = length-append (entry_head e e.timestamp) e.media ∙ ap (λ n. n + length e.media) (head_is timed e e.timestamp here.timestamp)
+one timed e here = length-append (entry_head e e.timestamp) e.media ∙ ap (λ n. n + length e.media)
+    (head_is timed e e.timestamp here.timestamp)
 
-all : (timed : Bool) (es : List TrunkEntry) → AllByRecursion (IsEntry timed) es → length (flat_map entry es) ≡ entries_len timed (map entry_item es)
+all : (timed : Bool) (es : List TrunkEntry) → AllByRecursion (IsEntry timed) es → length (flat_map entry es) ≡ entries_len timed
+    (map entry_item es)
 all timed [] each = refl
 all timed (e ∷ es) each =
     length-append (entry e) (flat_map entry es)
-    ∙ ap (λ n. n + length (flat_map entry es)) (one timed e each.0) ∙ ap (λ n. head_len timed + length e.media + n) (all timed es each.1)
+    ∙ ap (λ n. n + length (flat_map entry es)) (one timed e each.0) ∙ ap (λ n. head_len timed + length e.media + n)
+    (all timed es each.1)
 
 -- the length of a trunk frame
 pub trunk_len : (octets : List ℕ) (t : TrunkFrame) → SpellsTrunk octets t

@@ -1,6 +1,7 @@
 -- A side of a network can add to its record, and send, all that a step of a leg adds and sends.
 use Rattle.std.specs.Prelude.{◌&&◌}
-use Rattle.std.proofs.Common.{◌≡◌, ℕ, suc, ◌+◌, ◌-◌, ◌<◌, ◌≤◌, nat_lt, Bool, true, false, cond, All, List, [], ◌∷◌, ◌++◌, length, Option, Some, None, slice_get, refl, ap, sym, subst, ◌∙◌, arith}
+use Rattle.std.proofs.Common.{◌≡◌, ℕ, suc, ◌+◌, ◌-◌, ◌<◌, ◌≤◌, nat_lt, Bool, true, false, cond, All, List, [], ◌∷◌, ◌++◌, length}
+use Rattle.std.proofs.Common.{Option, Some, None, slice_get, refl, ap, sym, subst, ◌∙◌, arith}
 use Rattle.std.proofs.lemmas.Bool.{lt-ltb}
 use Rattle.std.proofs.lemmas.List.{append-nil, length-append, length-drop, take_all}
 use Rattle.std.proofs.lemmas.Option.{slice_get_within}
@@ -23,7 +24,9 @@ use Rattle.peer_lock.specs.Sides.{IsSideOf, Bears, IsSentBy, IsSentByOrMini, Tur
 use Rattle.peer_lock.specs.SoundPeer.{IsSoundPeer}
 use Rattle.seq_window.specs.Entry.{Entry, Sent, Acked, Taken}
 use Rattle.seq_window.specs.History.{IsLegal, IsWithinWindow, held, sent_count}
-use Rattle.seq_window.specs.Network.{Action, SendNumbered, SendUnnumbered, Retransmit, JudgeAcknowledgement, JudgeNumber, Datagram, Side, added_in_turn, actions_in_turn, after, after_all, after_retransmission, after_acknowledgement, after_number, after_reception, reply_actions}
+use Rattle.seq_window.specs.Network.{Action, SendNumbered, SendUnnumbered, Retransmit, JudgeAcknowledgement, JudgeNumber}
+use Rattle.seq_window.specs.Network.{Datagram, Side, added_in_turn, actions_in_turn, after, after_all, after_retransmission}
+use Rattle.seq_window.specs.Network.{after_acknowledgement, after_number, after_reception, reply_actions}
 use Rattle.seq_window.specs.Turn.{Turn, entries_for_reply, entries_in_turn}
 use Rattle.peer_lock.proofs.Choices.{either}
 use Rattle.peer_lock.proofs.SidesSent.{acked_before, before_within, sendings_out, or_minis_out}
@@ -34,7 +37,8 @@ record HasSizes (width limit : ℕ) (own : Side) : Type 0 where
   pub width_is : own.width ≡ width
   pub limit_is : own.limit ≡ limit
 
-retransmitted : (own : Side) (place : ℕ) (frame : Option Frame) → HasSizes own.width own.limit (after_retransmission own place frame)
+retransmitted : (own : Side) (place : ℕ) (frame : Option Frame)
+    → HasSizes own.width own.limit (after_retransmission own place frame)
 retransmitted own place None = record { width_is = refl; limit_is = refl }
 retransmitted own place (Some frame) = record { width_is = refl; limit_is = refl }
 
@@ -52,7 +56,8 @@ received own (Some datagram) = numbered own datagram.number datagram.frame
 
 acted : (action : Action) (own other : Side) → HasSizes own.width own.limit (after action own other)
 acted (SendNumbered frame) own other =
-    either (HasSizes own.width own.limit) (nat_lt (length (held own.history)) own.width && nat_lt (length own.history) own.limit) _ own
+    either (HasSizes own.width own.limit) (nat_lt (length (held own.history)) own.width && nat_lt (length own.history) own.limit)
+    _ own
     (record { width_is = refl; limit_is = refl }) (record { width_is = refl; limit_is = refl })
 acted SendUnnumbered own other = record { width_is = refl; limit_is = refl }
 acted (Retransmit place) own other = retransmitted own place (slice_get (held own.history) place)
@@ -90,7 +95,8 @@ leg_after old new named leg datagrams steps =
     let here = stands_at old.legs named.name.number named steps.at in
     ap (λ (legs : PeerLegs). leg_at legs named.name.number) steps.legs
     ∙ placed_there old.legs named.name.number (Some (record { name = named.name; leg = leg })) here.first
-    (within old.legs.first named.name.number (length old.legs.places) here.first (slice_get_within old.legs.places (named.name.number - old.legs.first) (Some named) here.place))
+    (within old.legs.first named.name.number (length old.legs.places) here.first
+    (slice_get_within old.legs.places (named.name.number - old.legs.first) (Some named) here.place))
 
 -- ---- a sent frame
 
@@ -110,21 +116,31 @@ module _ (own other : Side) (frame : Frame) (legal : IsLegal own.width own.limit
   after_it = own.history ++ Sent frame ∷ []
 
   now : IsWithinWindow own.width after_it
-  now = subst (IsWithinWindow own.width) (take_all (length after_it) after_it (omega arith)) (legal.at_each_moment (length after_it))
+  now = subst (IsWithinWindow own.width) (take_all (length after_it) after_it (omega arith))
+      (legal.at_each_moment (length after_it))
 
   before_it : IsWithinWindow own.width own.history
   before_it = before_within own.width own.limit own.history frame legal
 
   has_room : nat_lt (length (held own.history)) own.width ≡ true
   has_room = lt-ltb (length (held own.history)) own.width
-      (omega (arith, now.held, before_it.acked, sent_more own.history frame, acked_before own.history frame, length-drop {A = Frame}))
+      (omega (
+        arith,
+        now.held,
+        before_it.acked,
+        sent_more own.history frame,
+        acked_before own.history frame,
+        length-drop {A = Frame},
+      ))
 
   has_entry : nat_lt (length own.history) own.limit ≡ true
-  has_entry = lt-ltb (length own.history) own.limit (omega (arith, legal.within_limit, length-append own.history (Sent frame ∷ [])))
+  has_entry = lt-ltb (length own.history) own.limit
+      (omega (arith, legal.within_limit, length-append own.history (Sent frame ∷ [])))
 
   pub sent_after : (after (SendNumbered frame) own other).history ≡ own.history ++ Sent frame ∷ []
   sent_after =
-      rw (both_true (nat_lt (length (held own.history)) own.width) (nat_lt (length own.history) own.limit) has_room has_entry) refl
+      rw (both_true (nat_lt (length (held own.history)) own.width) (nat_lt (length own.history) own.limit) has_room has_entry)
+      refl
 
 replied : (own other : Side) (sent : Option Frame) → IsLegal own.width own.limit (own.history ++ entries_for_reply sent)
     → (after_all (reply_actions sent) own other).history ≡ own.history ++ entries_for_reply sent
@@ -147,7 +163,8 @@ sends_to rules new own other sent goes width limit grown =
 sends_events : (rules : PeerRules) (leg new : LegState) (own other : Side) → SendsAtMostOne leg new → IsLegOf rules new
     → IsSideOf rules leg own → SendsTo rules own other new
 sends_events rules leg new own other sends goes is =
-    let grown : new.window.history ≡ own.history ++ entries_for_reply sends.0 = sends.1 ∙ ap (λ h. h ++ entries_for_reply sends.0) (sym is.history) in
+    let grown : new.window.history ≡ own.history ++ entries_for_reply sends.0 = sends.1 ∙ ap (λ h. h ++ entries_for_reply sends.0)
+    (sym is.history) in
     sends_to rules new own other sends.0 goes is.width is.limit grown
 
 -- ---- a full frame
@@ -160,7 +177,8 @@ numbered_new _ is = cc
 new_numbered : (frame : FullFrame) → is_new (message_of frame.head) ≡ true → numbered_frame frame ≡ Some (stored frame)
 new_numbered frame is = ap (λ (b : Bool). cond b (Some (stored frame)) None) (numbered_new (message_of frame.head) is)
 
-module _ (law : (own other : Side) (which : ℕ) (datagram : Datagram) (turn : Turn) → slice_get other.datagrams which ≡ Some datagram
+module _ (law : (own other : Side) (which : ℕ) (datagram : Datagram) (turn : Turn) → slice_get other.datagrams which
+    ≡ Some datagram
     → IsLegal own.width own.limit (own.history ++ added_in_turn own datagram turn)
     → (after_all (actions_in_turn which turn) own other).history ≡ own.history ++ added_in_turn own datagram turn) where
   -- the record after the turn is known
@@ -174,7 +192,8 @@ module _ (law : (own other : Side) (which : ℕ) (datagram : Datagram) (turn : T
       subst (IsLegal own.width own.limit) grown (rw (width, limit) (legal_by rules new goes)) in
       acts rules new own other (actions_in_turn which turn) width limit (law own other which datagram turn at legal ∙ sym grown)
 
-  turn_events : (rules : PeerRules) (leg new : LegState) (frame : FullFrame) (own other : Side) (which : ℕ) (datagram : Datagram) (datagrams : List (List ℕ))
+  turn_events : (rules : PeerRules) (leg new : LegState) (frame : FullFrame) (own other : Side) (which : ℕ) (datagram : Datagram)
+      (datagrams : List (List ℕ))
       → TakesTurn leg frame new → IsLegOf rules new → IsSideOf rules leg own → slice_get other.datagrams which ≡ Some datagram
       → Bears frame datagram
       → All (IsSending new) datagrams → TurnsInto rules own other which new datagrams
@@ -182,17 +201,20 @@ module _ (law : (own other : Side) (which : ℕ) (datagram : Datagram) (turn : T
       let actions = actions_in_turn which turns.0 in
       let grown : new.window.history ≡ own.history ++ added_in_turn own datagram turns.0 =
       turns.1
-      ∙ (λ i. sym is.history i ++ entries_in_turn (sym is.history i) (bears.iseqno i) (bears.oseqno i) (bears.frame_is i) turns.0) in
+      ∙ (λ i. sym is.history i ++ entries_in_turn (sym is.history i) (bears.iseqno i) (bears.oseqno i) (bears.frame_is i)
+      turns.0) in
       let side = turns_to rules new own other which datagram turns.0 goes is.width is.limit at grown in
       let sends = sendings_out rules new goes other (after_all actions own other) datagrams side sendings in
       (turns.0, record { grows = side; sends = sends })
 
-  pub frame_events : (old new : PeerView) (frame : FullFrame) (turn : TakesTurnAtLeg old frame new) → IsSoundPeer new → (own other : Side) → IsSideOf new.rules turn.named.leg own
+  pub frame_events : (old new : PeerView) (frame : FullFrame) (turn : TakesTurnAtLeg old frame new) → IsSoundPeer new
+      → (own other : Side) → IsSideOf new.rules turn.named.leg own
       → (which : ℕ) (datagram : Datagram) → slice_get other.datagrams which ≡ Some datagram → Bears frame datagram
       → TurnsInto new.rules own other which turn.leg turn.datagrams
   frame_events old new frame turn sound own other is which datagram at bears =
       turn_events new.rules turn.named.leg turn.leg frame own other which datagram turn.datagrams turn.tied
-      (sound.kept.ruled turn.named.name.number (record { name = turn.named.name; leg = turn.leg }) (leg_after old new turn.named turn.leg turn.datagrams turn.steps)) is at bears
+      (sound.kept.ruled turn.named.name.number (record { name = turn.named.name; leg = turn.leg })
+      (leg_after old new turn.named turn.leg turn.datagrams turn.steps)) is at bears
       turn.sendings
 
   -- ---- a received NEW
@@ -216,14 +238,20 @@ module _ (law : (own other : Side) (which : ℕ) (datagram : Datagram) (turn : T
 
 -- ---- an order, and a NEW that is sent
 
-pub order_events : (old new : PeerView) (name : LegName) (sends : SendsAtLeg old name new) → IsSoundPeer new → (own other : Side) → IsSideOf new.rules sends.named.leg own
+pub order_events : (old new : PeerView) (name : LegName) (sends : SendsAtLeg old name new) → IsSoundPeer new → (own other : Side)
+    → IsSideOf new.rules sends.named.leg own
     → SendsInto IsSentByOrMini new.rules own other sends.leg sends.datagrams
 order_events old new name sends sound own other is =
     let goes = sound.kept.ruled sends.named.name.number (record { name = sends.named.name; leg = sends.leg })
     (leg_after old new sends.named sends.leg sends.datagrams sends.steps) in
     let one = sends_events new.rules sends.named.leg sends.leg own other sends.tied goes is in
-    let mid = after_all (reply_actions one.0) own other in
-    (one.0, record { grows = one.1; sends = or_minis_out new.rules sends.leg goes other mid sends.datagrams one.1 sends.sendings })
+    let mid = after_all (reply_actions one.0) own other in (
+      one.0,
+      record {
+        grows = one.1;
+        sends = or_minis_out new.rules sends.leg goes other mid sends.datagrams one.1 sends.sendings;
+      },
+    )
 
 -- only full frames are sent
 sent_into : (rules : PeerRules) (leg : LegState) (own other : Side) (datagrams : List (List ℕ)) → IsLegOf rules leg
@@ -243,7 +271,8 @@ call_out_events old new name sends sound other =
 
 -- ---- a tick
 
-ticked_events : (rules : PeerRules) (own other : Side) (before : Option NamedLeg) (named after : NamedLeg) → SendsAt before (Some after) → before ≡ Some named → IsLegOf rules after.leg
+ticked_events : (rules : PeerRules) (own other : Side) (before : Option NamedLeg) (named after : NamedLeg)
+    → SendsAt before (Some after) → before ≡ Some named → IsLegOf rules after.leg
     → IsSideOf rules named.leg own → SendsTo rules own other after.leg
 ticked_events rules own other None named after sends was goes is = cc
 ticked_events rules own other (Some before) named after sends was goes is =
@@ -253,12 +282,14 @@ ticked_events rules own other (Some before) named after sends was goes is =
     rw there (subst (λ (n : NamedLeg). SendsAtMostOne n.leg sends.0) same sends.1) in
     sends_events rules named.leg after.leg own other tied goes is
 
-pub tick_events : (old new : PeerView) → EachSends old new → IsSoundPeer new → (number : ℕ) (named after : NamedLeg) → leg_at old.legs number ≡ Some named
+pub tick_events : (old new : PeerView) → EachSends old new → IsSoundPeer new → (number : ℕ) (named after : NamedLeg)
+    → leg_at old.legs number ≡ Some named
     → leg_at new.legs number ≡ Some after → (datagrams : List (List ℕ)) → All (IsSending after.leg) datagrams
     → (own other : Side) → IsSideOf new.rules named.leg own
     → SendsInto IsSentBy new.rules own other after.leg datagrams
 tick_events old new sends sound number named after was is datagrams sendings own other side =
     let goes = sound.kept.ruled number after is in
     sent_into new.rules after.leg own other datagrams goes
-    (ticked_events new.rules own other (leg_at old.legs number) named after (subst (SendsAt (leg_at old.legs number)) is (sends.each number))
+    (ticked_events new.rules own other (leg_at old.legs number) named after (subst (SendsAt (leg_at old.legs number)) is
+    (sends.each number))
     was goes side) sendings

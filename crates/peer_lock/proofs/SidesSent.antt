@@ -261,7 +261,8 @@ module _ (rules : PeerRules) (leg : LegState) (goes : IsLegOf rules leg) (other 
   pub datagrams_out : (own : Side) (datagrams : List Datagram) → IsSideOf rules leg own → All (IsSentFrom leg) datagrams
       → SendsAll Datagram HasDatagram rules leg own other datagrams
   datagrams_out =
-      all_out Datagram HasDatagram (IsSentFrom leg) rules leg other (λ actions own one is. all_still_sent actions own other one is) datagram_out
+      all_out Datagram HasDatagram (IsSentFrom leg) rules leg other (λ actions own one is. all_still_sent actions own other one
+      is) datagram_out
 
   pub sendings_out : (own : Side) (datagrams : List (List ℕ)) → IsSideOf rules leg own → All (IsSending leg) datagrams
       → SendsAll (List ℕ) IsSentBy rules leg own other datagrams

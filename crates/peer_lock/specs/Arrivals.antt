@@ -1,5 +1,6 @@
 -- The steps of a peer by which it handles a datagram ("Full Frames", "Mini Frames", "Meta Frames").
-use Rattle.std.specs.Prelude.{ℕ, ◌+◌, Bool, List, [], ◌∷◌, ◌++◌, ◌&&◌, true, false, Option, None, Some, length, map, if◌then◌else◌}
+use Rattle.std.specs.Prelude.{ℕ, ◌+◌, Bool, List, [], ◌∷◌, ◌++◌, ◌&&◌, true, false, Option, None, Some, length, map}
+use Rattle.std.specs.Prelude.{if◌then◌else◌}
 use Rattle.call_book.specs.declared.leg_name.LegName.{LegName}
 use Rattle.call_signals.specs.FrameElements.{element_in}
 use Rattle.call_signals.specs.Message.{message_of}
@@ -21,7 +22,8 @@ use Rattle.call_signals.specs.declared.signal.MediaSpan.{MediaSpan}
 use Rattle.call_signals.specs.declared.signal.Signal.{Signal}
 use Rattle.call_signals.specs.declared.signal.Signal.TheVariants.{Media}
 use Rattle.peer_accounts.specs.Accounts.{stepped, with_accepted}
-use Rattle.peer_lock.specs.Delivery.{Delivery, Reaches, NeedsNumber, NoToken, Gets, Pongs, NoCall, answer_octets, delivery, full_refused}
+use Rattle.peer_lock.specs.Delivery.{Delivery, Reaches, NeedsNumber, NoToken, Gets, Pongs, NoCall, answer_octets, delivery}
+use Rattle.peer_lock.specs.Delivery.{full_refused}
 use Rattle.peer_legs.specs.Legs.{PeerLegs, NamedLeg, leg_of_remote}
 use Rattle.peer_accounts.specs.Grants.{granted}
 use Rattle.peer_lock.specs.Peer.{PeerView, PeerStep, handed_up, offer_with, leg_alone, no_leg, alone, with_datagram, with_step}

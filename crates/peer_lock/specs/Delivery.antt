@@ -1,13 +1,15 @@
 -- The delivery of a full frame ("Full Frames", "INVAL", "NEW"), and the answer to one that no leg has ("POKE", "REJECT",
 -- "REGREJ"). Call tokens are chan_iax2's; RFC 5456 has none.
-use Rattle.std.specs.Prelude.{◌≡◌, ℕ, ◌+◌, ◌/◌, ◌%◌, ◌==◌, ◌&&◌, ◌||◌, Bool, true, false, List, [], ◌∷◌, Option, None, Some, if◌then◌else◌}
+use Rattle.std.specs.Prelude.{◌≡◌, ℕ, ◌+◌, ◌/◌, ◌%◌, ◌==◌, ◌&&◌, ◌||◌, Bool, true, false, List, [], ◌∷◌, Option, None, Some}
+use Rattle.std.specs.Prelude.{if◌then◌else◌}
 use Rattle.call_auth.specs.CallToken.{call_token, is_given}
 use Rattle.call_auth.specs.declared.call_token.CallTokens.{CallTokens}
 use Rattle.iax_frames.specs.FullFrame.{FullFrame, spelling}
 use Rattle.iax_frames.specs.declared.full_frame.FullHead.{FullHead}
 use Rattle.leg_machine.specs.Leg.{is_record_full}
 use Rattle.leg_machine.specs.Message.{message_of, is_numbered}
-use Rattle.call_signals.specs.Codes.{FRAME_IAX, IAX_CALLTOKEN, IAX_INVAL, IAX_PONG, IAX_REJECT, IAX_REGREQ, IAX_REGREJ, IAX_REGREL}
+use Rattle.call_signals.specs.Codes.{FRAME_IAX, IAX_CALLTOKEN, IAX_INVAL, IAX_PONG, IAX_REJECT, IAX_REGREQ, IAX_REGREJ}
+use Rattle.call_signals.specs.Codes.{IAX_REGREL}
 use Rattle.call_signals.specs.FrameElements.{element_in}
 use Rattle.call_signals.specs.Reply.{cause_elements, element_of}
 use Rattle.call_signals.specs.declared.cause.Cause.TheVariants.{Congestion, Other}

@@ -1,5 +1,7 @@
 pub mod Arrivals
+pub mod Asking
 pub mod CarriedMedia
+pub mod CarriedOn
 pub mod Delivery
 pub mod Descriptions
 pub mod Errors

@@ -53,7 +53,8 @@ order_load kinds.Paid octets = no_load
 order_load kind octets = load_of 1
 
 -- The trunk frames into which a tick packs the queue. In plan version 4 the queue already counts as one datagram.
-abbrev pub frames_packed : (wait : Option ℕ) (old : PeerView) (now octets : ℕ) (new : PeerView) → Packs wait old now octets new → ℕ
+abbrev pub frames_packed : (wait : Option ℕ) (old : PeerView) (now octets : ℕ) (new : PeerView) → Packs wait old now octets new
+    → ℕ
 frames_packed None old now octets new packs = length packs.datagrams
 frames_packed (Some wait) old now octets new packs = 0
 

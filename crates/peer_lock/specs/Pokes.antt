@@ -1,6 +1,8 @@
--- The POKEs by which the exchange asks whether a peer is there, and their PONGs (RFC 5456, sections 6.7.1, "POKE Request Message",
+-- The POKEs by which the exchange asks whether a peer is there, and their PONGs (RFC 5456, sections 6.7.1, "POKE Request
+-- Message",
 -- and 6.7.3, "PONG Response Message").
-use Rattle.std.specs.Prelude.{ℕ, ◌+◌, ◌-◌, ◌%◌, ◌^◌, ◌&&◌, ◌==◌, nat_le, nat_lt, Bool, true, false, List, [], ◌∷◌, Option, None, Some, option_map, if◌then◌else◌}
+use Rattle.std.specs.Prelude.{ℕ, ◌+◌, ◌-◌, ◌%◌, ◌^◌, ◌&&◌, ◌==◌, nat_le, nat_lt, Bool, true, false, List, [], ◌∷◌, Option, None}
+use Rattle.std.specs.Prelude.{Some, option_map, if◌then◌else◌}
 use Rattle.call_signals.specs.Codes.{FRAME_IAX, IAX_POKE}
 use Rattle.call_signals.specs.Message.{message_of}
 use Rattle.call_signals.specs.declared.message.Message.{Message}
@@ -70,11 +72,13 @@ poked rules pokes now =
 abbrev pub pokes_after : PeerRules → Pokes → ℕ → Pokes
 pokes_after rules pokes now = if is_poke_due rules pokes now then poked rules pokes now else pokes
 
--- The moment of the first POKE of the last run that went out without an answer. The present run is that once its last POKE has waited
+-- The moment of the first POKE of the last run that went out without an answer. The present run is that once its last POKE has
+-- waited
 -- as long as the others.
 abbrev pub unanswered_since : PeerRules → Pokes → ℕ → Option ℕ
 unanswered_since rules pokes now =
-    if nat_lt rules.max_retries pokes.unanswered && has_waited pokes.last rules.retry_ms now then Some pokes.since else pokes.silent
+    if nat_lt rules.max_retries pokes.unanswered && has_waited pokes.last rules.retry_ms now then Some pokes.since
+    else pokes.silent
 
 -- ---- what comes back
 

@@ -19,6 +19,8 @@ ghost use Rattle.iax_frames.specs.declared.datagram.Datagram.{Datagram as Datagr
 ghost use Rattle.peer_lock.specs.declared.errors.PeerError.{PeerError as PeerErrorValue};
 ghost use Rattle.peer_lock.specs.Unworked.{IsSoundFull, IsRefusedFull, IsCutFrame, IsSound, IsRefusedRead, IsShortDatagram};
 ghost use Rattle.peer_lock.specs.Unworked.{IsWorked, IsUnworked};
+ghost use Rattle.memory_requests.specs.Refused.{WasRefused};
+ghost use Rattle.peer_lock.specs.Asking.{MayAsk};
 
 use crate::errors::PeerError;
 use crate::media_arrivals::ENTRIES;
@@ -30,7 +32,7 @@ use call_signals::codes::FRAME_IAX;
 use iax_frames::{Datagram, Full};
 use info_elements::{CHALLENGE, elements, last_in};
 use leg_machine::{ElementText, Heard, Judged, MediaSpan, Message, PeerRules, Signal, StepError};
-use peer_accounts::{Naming, Offer, Onwards, Pass};
+use peer_accounts::{LedgerSet, Offer, Onwards, Pass};
 use peer_legs::NamedLeg;
 
 // Returns the offer of a leg's offered call.
@@ -83,7 +85,7 @@ pub(crate) fn hand_up(onwards: &mut Onwards, named: &NamedLeg, signal: Option<Si
     onwards.push(named.name(), *signal);
 }
 
-impl<J: Naming> PeerState<J> {
+impl<J: LedgerSet> PeerState<J> {
     // Gives a full frame to the leg of a number, and puts the leg's frames into the outbox.
     fn hear(&mut self, number: u16, frame: &Full, now: u64) -> Result<Heard, StepError>
         requires short { length frame.now.payload ≤ 1388 }
@@ -101,6 +103,7 @@ impl<J: Naming> PeerState<J> {
         ensures record_full { (named : NamedLegValue) → leg_at self.old.legs number ≡ Some named →
             (result ≡ Err StepError.RecordFull) ↔ (is_record_full named.leg ≡ true) }
         ensures err { OnErr result (self.new ≡ self.old) }
+        ensures no_memory { result ≡ Err StepError.Memory → WasRefused }
     {
         let _sound = self.legs.count();
         let own = self.legs.call_number(number);
@@ -139,7 +142,10 @@ impl<J: Naming> PeerState<J> {
                   (granted J.first_octets self.old.accounts.accepted heard.signal).octets;
             } }
         ensures step { (named : NamedLegValue) → leg_at self.old.legs number ≡ Some named →
-            result ≡ record (leg_alone named.name heard.judged) { rejected = spec_of.reflection self.old.rules frame.now heard.judged } }
+            result ≡ record (leg_alone named.name heard.judged) {
+              rejected = spec_of.reflection self.old.rules frame.now
+                  heard.judged;
+            } }
         ensures signals { (named : NamedLegValue) → leg_at self.old.legs number ≡ Some named
             → onwards.new.signals ≡ handed_up named.name (granted J.first_octets self.old.accounts.accepted heard.signal).signal }
         ensures offer { (named : NamedLegValue) → leg_at self.old.legs number ≡ Some named
@@ -177,6 +183,7 @@ impl<J: Naming> PeerState<J> {
         ensures refused { IfErr result (λ e. (named : NamedLegValue) → leg_at self.old.legs number ≡ Some named →
             IsDue (delivery_refused (Reaches named)) e) }
         ensures err { OnErr result (IsUnchanged self.old self.new pass.old pass.new onwards.new) }
+        ensures no_memory { result ≡ Err PeerError.Memory → WasRefused }
     {
         if self.legs.is_record_full(number) {
             return Err(PeerError::RecordFull);
@@ -206,6 +213,8 @@ impl<J: Naming> PeerState<J> {
         ensures refused { IfErr result (λ e. IsRefusedFull frame.now e ⊎
             (IsSoundFull frame.now × IsDue (full_refused self.old frame.now now) e)) }
         ensures err { OnErr result (IsUnchanged self.old self.new pass.old pass.new onwards.new) }
+        ensures no_memory { result ≡ Err PeerError.Memory → WasRefused }
+        ensures memory { result ≡ Err PeerError.Memory → IsSome (found self.old.legs frame.now) }
     {
         if frame.payload().len() > 1388 {
             return Err(PeerError::TooLong);
@@ -241,6 +250,8 @@ impl<J: Naming> PeerState<J> {
         ensures refused { IfErr result (λ e. IsRefusedRead datagram.now e ⊎
             (IsSound datagram.now × IsDue (datagram_refused self.old datagram.now now) e)) }
         ensures err { OnErr result (IsUnchanged self.old self.new pass.old pass.new onwards.new) }
+        ensures no_memory { result ≡ Err PeerError.Memory → WasRefused }
+        ensures memory { result ≡ Err PeerError.Memory → MayAsk self.old onwards.old.room datagram.now }
     {
         match datagram {
             Datagram::Full(frame) => return self.full(pass, frame, now, onwards),
@@ -295,6 +306,10 @@ impl<J: Naming> PeerState<J> {
             ⊎ ((d : DatagramValue) × IsWorked J.first_steps self.old.accounts.steps octets.now d ×
             IsDue (datagram_refused self.old d now) e)) }
         ensures err { OnErr result (IsUnchanged self.old self.new pass.old pass.new onwards.new) }
+        ensures no_memory { result ≡ Err PeerError.Memory → WasRefused }
+        ensures memory { result ≡ Err PeerError.Memory →
+            (d : DatagramValue) → IsWorked J.first_steps self.old.accounts.steps octets.now d →
+            MayAsk self.old onwards.old.room d }
     {
         self.datagram_read(pass, &ReadDatagram::of(octets), now, onwards)
     }
@@ -324,6 +339,10 @@ impl<J: Naming> PeerState<J> {
             ⊎ ((d : DatagramValue) × IsWorked J.first_steps self.old.accounts.steps datagram.now d ×
             IsDue (datagram_refused self.old d now) e)) }
         ensures err { OnErr result (IsUnchanged self.old self.new pass.old pass.new onwards.new) }
+        ensures no_memory { result ≡ Err PeerError.Memory → WasRefused }
+        ensures memory { result ≡ Err PeerError.Memory →
+            (d : DatagramValue) → IsWorked J.first_steps self.old.accounts.steps datagram.now d →
+            MayAsk self.old onwards.old.room d }
     {
         if self.account.is_spent() {
             return Err(PeerError::StepsSpent);

@@ -11,14 +11,14 @@ use crate::steps::Status;
 use leg_machine::{PeerRules, Replies};
 use media_ledger::Share;
 use outbox::{Losses, Outbox};
-use peer_accounts::{ClosedAccount, Naming};
+use peer_accounts::{ClosedAccount, LedgerSet};
 use peer_legs::PeerLegs;
 use std::alloc::Global;
 use std::marker::Model;
 use trunk_packer::Packer;
 
 /// A peer that gave its shares up. Contracts see it as the peer.
-pub struct ClosedPeer<J: Naming> {
+pub struct ClosedPeer<J: LedgerSet> {
     pub(crate) alloc: Global,
     pub(crate) rules: PeerRules,
     pub(crate) legs: PeerLegs,
@@ -32,7 +32,7 @@ pub struct ClosedPeer<J: Naming> {
 }
 
 // Written out, so that an owner proves one call at its drop, not the drop of each field.
-impl<J: Naming> Drop for ClosedPeer<J> {
+impl<J: LedgerSet> Drop for ClosedPeer<J> {
     fn drop(self) {
         let ClosedPeer {
             alloc: _,
@@ -49,19 +49,37 @@ impl<J: Naming> Drop for ClosedPeer<J> {
     }
 }
 
-impl<J: Naming> Model for ClosedPeer<J> {
+impl<J: LedgerSet> Model for ClosedPeer<J> {
     ghost use Rattle.peer_lock.specs.Peer.{PeerView};
     ghost use Rattle.peer_lock.specs.SoundPeer.{IsKept};
 
     ghost Value = { PeerView };
 
-    ghost view = { λ s. record { rules = s.rules; legs = s.legs; outbox = s.outbox; queue = s.queue; since = s.since; drains = s.drains; pokes = s.pokes; accounts = s.account } };
+    ghost view = { λ s. record {
+      rules = s.rules;
+      legs = s.legs;
+      outbox = s.outbox;
+      queue = s.queue;
+      since = s.since;
+      drains = s.drains;
+      pokes = s.pokes;
+      accounts = s.account;
+    } };
 
     ghost invariant = { λ s.
-        IsKept (record { rules = s.rules; legs = s.legs; outbox = s.outbox; queue = s.queue; since = s.since; drains = s.drains; pokes = s.pokes; accounts = s.account }) };
+        IsKept (record {
+          rules = s.rules;
+          legs = s.legs;
+          outbox = s.outbox;
+          queue = s.queue;
+          since = s.since;
+          drains = s.drains;
+          pokes = s.pokes;
+          accounts = s.account;
+        }) };
 }
 
-impl<J: Naming> ClosedPeer<J> {
+impl<J: LedgerSet> ClosedPeer<J> {
     /// Returns the peer's place in the plan, from 0 on.
     pub fn peer(&self) -> u16
         ensures { result ≡ self.now.legs.peer }

@@ -10,7 +10,7 @@ use crate::steps::Status;
 use iax_frames::CallNumber;
 use leg_machine::{ElementText, Format};
 use outbox::Losses;
-use peer_accounts::{Naming, Sums};
+use peer_accounts::{LedgerSet, Sums};
 use peer_legs::NamedLeg;
 
 /// A leg, with the values of its call.
@@ -46,7 +46,7 @@ fn description_of(named: &NamedLeg) -> Description
     }
 }
 
-impl<J: Naming> PeerState<J> {
+impl<J: LedgerSet> PeerState<J> {
     /// Returns the leg of a local number, with the values of its call, or `None` if there is none. That is no step.
     pub fn describe(&self, number: u16) -> Option<Description>
         ensures { result ≡ option_map description_of (leg_at self.now.legs number) }
@@ -54,8 +54,8 @@ impl<J: Naming> PeerState<J> {
         self.legs.get(number).map(|named| description_of(named))
     }
 
-    /// The leg with the least local number that is at least this one, with what its call is about. The name in its status has its
-    /// number. `None` if no leg has such a number. That is no step.
+    /// Returns the leg with the least local number from this one on, with the values of its call, or `None` if there is none.
+    /// The name in its status has its number. That is no step.
     pub fn describe_from(&self, number: u16) -> Option<Description>
         ensures leg { result ≡ description_from self.now.legs number }
         ensures from { IfSome result (λ leg. number ≤ leg.status.name.number) }

@@ -1,5 +1,6 @@
 //! Laws of every step of a peer.
 ghost use Rattle.std.specs.Prelude.{◌≡◌, ◌≢◌, ◌+◌, ◌≤◌, ◌⊎◌, ℕ, true, false, length, List, All, Option, None, Some, slice_get};
+ghost use Rattle.std.specs.List.{AllByRecursion};
 ghost use Rattle.call_auth.specs.declared.call_token.CallTokens.{CallTokens};
 ghost use Rattle.call_book.specs.declared.leg_name.LegName.{LegName};
 ghost use Rattle.iax_frames.specs.Datagram.{Spells};
@@ -20,7 +21,8 @@ ghost use Rattle.call_signals.specs.declared.order.OrderKind.TheVariants.{Media}
 ghost use Rattle.call_signals.specs.declared.rules.PeerRules.{PeerRules};
 ghost use Rattle.call_signals.specs.declared.stage.Stage.TheVariants.{Ended};
 ghost use Rattle.peer_lock.specs.Arrivals.{datagram_step};
-ghost use Rattle.peer_lock.specs.CarriedMedia.{CarriesItsOwn};
+ghost use Rattle.peer_lock.specs.CarriedMedia.{Ascends, CarriesItsOwn, HasNoSpan};
+ghost use Rattle.peer_lock.specs.CarriedOn.{CarriedOn, CarriesByOrder, CarriesOn, KeepsOrder, followed_by, nothing};
 ghost use Rattle.peer_lock.specs.Delivery.{BearsToken, Gets, delivery, drained_for, found, full_refused, is_new};
 ghost use Rattle.peer_legs.specs.Legs.{AreLegs, IsLegOf, PeerLegs, NamedLeg, leg_at, leg_named, with_place};
 ghost use Rattle.peer_legs.specs.Legs.{is_free_name};
@@ -48,6 +50,17 @@ ghost use Rattle.seq_window.specs.Network.{Datagram as Sending, Side};
 pub fn media_is_the_datagrams()
     ensures { (first : ℕ) (peer : PeerView) (octets : List ℕ) (datagram : Datagram) (now : ℕ) → Spells octets datagram →
         CarriesItsOwn (length octets) (datagram_step first peer datagram now) }
+{
+    leg_machine::laws::media_is_the_frames();
+}
+
+/// Media that a datagram's step hands up has the order of the datagram, and no octet is in two pieces. A NEW that opens a leg
+/// hands up no media.
+pub fn media_is_handed_up_once()
+    ensures datagrams { (first : ℕ) (peer : PeerView) (datagram : Datagram) (now : ℕ) →
+        Ascends 0 (datagram_step first peer datagram now).signals }
+    ensures calls_in { (peer : PeerView) (name : LegName) (frame : FullFrame) (now : ℕ) (challenge : List ℕ) →
+        AllByRecursion HasNoSpan (opens_in peer name frame now challenge).signals }
 {
     leg_machine::laws::media_is_the_frames();
 }
@@ -216,4 +229,27 @@ pub fn full_frames_bring_few_answers()
         (datagram_load peer (Full frame) now).datagrams ≤ 1 }
     ensures vnaks { (peer : PeerView) (frame : FullFrame) (now : ℕ) → IsSoundPeer peer →
         (datagram_load peer (Full frame) now).datagrams ≤ 127 }
+{}
+
+/// A peer's trunk queue and outbox are first in, first out, step by step ("Mini Frames", "Meta Frames"). Each trunk frame is
+/// made of queued entries, each of which is in one. Only an order of media queues an entry, or puts a mini frame or a new voice
+/// full frame into the outbox, with just its octets. The media of each leg keeps its order in plan version 4, and without
+/// trunks. The steps are those of the calls' own clauses.
+pub fn steps_keep_their_order()
+    ensures datagrams { (first : ℕ) (peer : PeerView) (datagram : Datagram) (now : ℕ) →
+        CarriesOn peer (datagram_step first peer datagram now).peer }
+    ensures calls_in { (peer : PeerView) (name : LegName) (frame : FullFrame) (now : ℕ) (challenge : List ℕ) →
+        CarriesOn peer (opens_in peer name frame now challenge).peer }
+    ensures rejected_calls { (peer : PeerView) (frame : FullFrame) → CarriesOn peer (rejects_new peer frame).peer }
+    ensures calls_out { (peer : PeerView) (name : LegName) (called : List ℕ) (caller : List ℕ) (format : Format) (now : ℕ) →
+        CarriesOn peer (opens_out peer name called caller format now).peer }
+    ensures orders { (peer : PeerView) (name : LegName) (named : NamedLeg) (order : Order) (now : ℕ) → AreLegs peer.legs →
+        leg_named peer.legs name ≡ Some named → CarriesByOrder order name.number peer (ordered_step peer name order now) }
+    ensures ticks { (old : PeerView) (now : ℕ) (report : TickReport) (new : PeerView) → Ticks old now report new →
+        CarriesOn old new }
+    ensures retiring { (peer : PeerView) (name : LegName) → CarriesOn peer (without_leg peer name) }
+    // What two runs of steps carry on, one after the other, they carry on together.
+    ensures none { (peer : PeerView) → KeepsOrder nothing peer peer }
+    ensures together { (one other : CarriedOn) (old mid new : PeerView) → KeepsOrder one old mid → KeepsOrder other mid new →
+        KeepsOrder (followed_by one other) old new }
 {}

@@ -21,7 +21,7 @@ pub use closed::ClosedPeer;
 pub use descriptions::Description;
 pub use errors::{OpenError, OrderError, PeerError, RejectError, StepsSpent};
 pub use outbox::Losses;
-pub use peer_accounts::{Naming, Offer, Onwards, Pass, Service, Sums};
+pub use peer_accounts::{LedgerSet, Offer, Onwards, Pass, Service, Sums};
 pub use pokes::Pokes;
 pub use read_datagram::ReadDatagram;
 pub use state::PeerState;

@@ -11,13 +11,13 @@ use crate::errors::PeerError;
 use crate::state::PeerState;
 use iax_frames::{Mini, Trunk};
 use leg_machine::{MediaIn, MediaSpan, Signal};
-use peer_accounts::{Naming, Onwards, Pass};
+use peer_accounts::{LedgerSet, Onwards, Pass};
 use trunk_packer::entry_head_len;
 
 /// More trunk entries than a datagram of 2,048 octets can have.
 pub(crate) const ENTRIES: usize = 512;
 
-impl<J: Naming> PeerState<J> {
+impl<J: LedgerSet> PeerState<J> {
     // Takes media for the leg of a number. If it counts and there is credit for it, it is handed up.
     pub(crate) fn take_media(
         &mut self,

@@ -12,6 +12,7 @@ ghost use Rattle.leg_machine.specs.Openings.{open_out_step};
 ghost use Rattle.outbox.specs.Outbox.{put};
 ghost use Rattle.peer_lock.specs.Openings.{IsOpening, IsOpenRefusal, open_in_refused, open_out_refused};
 ghost use Rattle.peer_lock.specs.Openings.{opens_in, opens_out, reject_new_refused, rejects_new, with_seated};
+ghost use Rattle.memory_requests.specs.Refused.{WasRefused};
 
 use crate::arrivals::hand_up;
 use crate::errors::{OpenError, RejectError};
@@ -23,10 +24,10 @@ use call_auth::Challenge;
 use call_book::{Lease, LegName};
 use iax_frames::{CallNumber, Full};
 use leg_machine::{Caller, Format, Heard, Judged, Leg};
-use peer_accounts::{Naming, Onwards, Pass};
+use peer_accounts::{LedgerSet, Onwards, Pass};
 use std::alloc::AllocError;
 
-impl<J: Naming> PeerState<J> {
+impl<J: LedgerSet> PeerState<J> {
     // Puts an opened leg into its place.
     fn seat(&mut self, pass: &mut Pass<J>, lease: Lease, leg: Leg)
         requires steps { self.old.accounts.steps ≢ J.first_steps }
@@ -108,6 +109,7 @@ impl<J: Naming> PeerState<J> {
             IsOpenRefusal (open_in_refused self.old J.first_steps lease frame.now.head.source) back.1) }
         ensures lease { IfErr result (λ back. back.0 ≡ lease) }
         ensures err { OnErr result (IsUnchanged self.old self.new pass.old pass.new onwards.new) }
+        ensures no_memory { IfErr result (λ back. back.1 ≡ OpenError.Memory → WasRefused) }
     {
         let name = lease.name();
         if let Some(refusal) = self.new_refused(name, frame) {
@@ -226,6 +228,7 @@ impl<J: Naming> PeerState<J> {
             (open_out_step self.old.rules name.number called.now caller.now format now).leg) }
         ensures ruled { IfOk result (λ leg. IsLegOf self.old.rules leg.state) }
         ensures err { OnErr result (self.new ≡ self.old) }
+        ensures no_memory { OnErr result WasRefused }
     {
         leg_machine::laws::steps_send_as_sides();
         let number = self.free_number(name);
@@ -268,6 +271,7 @@ impl<J: Naming> PeerState<J> {
         ensures refused { IfErr result (λ back. IsOpenRefusal (open_out_refused self.old J.first_steps lease) back.1) }
         ensures lease { IfErr result (λ back. back.0 ≡ lease) }
         ensures err { OnErr result ((self.new ≡ self.old) × (pass.new ≡ pass.old)) }
+        ensures no_memory { IfErr result (λ back. back.1 ≡ OpenError.Memory → WasRefused) }
     {
         if let Some(refusal) = self.opening_refused(lease.name()) {
             return Err((lease, refusal));

@@ -1,5 +1,6 @@
 //! The steps of a peer by which a leg obeys an order ("Call Setup", "Control Frames", "Mini Frames", "Meta Frames").
-ghost use Rattle.std.specs.Prelude.{◌≡◌, ◌≢◌, ◌+◌, ◌-◌, ◌<◌, ◌≤◌, [], length, map, None, Some, Err, true, if◌then◌else◌, IsSome, IsTrue, ◌↔◌};
+ghost use Rattle.std.specs.Prelude.{◌≡◌, ◌≢◌, ◌+◌, ◌-◌, ◌<◌, ◌≤◌, [], length, map, None, Some, Err, true, if◌then◌else◌, IsSome};
+ghost use Rattle.std.specs.Prelude.{IsTrue, ◌↔◌};
 ghost use Rattle.std.specs.Prelude.{IfOk, IfErr, OnOk, OnErr};
 ghost use Rattle.leg_machine.specs.OrderTable.{IsShortMedia, is_voice, wants_memory, media_refused, order_refused};
 ghost use Rattle.leg_machine.specs.OrderTable.{order_carried};
@@ -13,6 +14,7 @@ ghost use Rattle.peer_lock.specs.Orders.{order_refused_by, ordered_step, order_o
 ghost use Rattle.iax_frames.specs.TrunkFrame.{head_len};
 ghost use Rattle.peer_lock.specs.Trunks.{has_any, waits};
 ghost use Rattle.trunk_packer.specs.Queue.{trunk_octets};
+ghost use Rattle.memory_requests.specs.Refused.{WasRefused};
 
 use crate::errors::OrderError;
 use crate::outboxes::{flush_if, is_ahead, is_next, put_all};
@@ -21,7 +23,7 @@ use crate::steps::Step;
 use call_book::LegName;
 use iax_frames::CallNumber;
 use leg_machine::{Judged, MediaSent, Order};
-use peer_accounts::{Carried, Naming, Pass};
+use peer_accounts::{Carried, LedgerSet, Pass};
 use trunk_packer::Packer;
 
 // Returns the moment at which the oldest entry was queued, once there is one more.
@@ -31,7 +33,7 @@ fn oldest(queue: &Packer, since: u64, now: u64) -> u64
     if queue.is_empty() { now } else { since }
 }
 
-impl<J: Naming> PeerState<J> {
+impl<J: LedgerSet> PeerState<J> {
     // Queues media to wait for a trunk frame, or drops it if the queue is full.
     fn queue_media(
         &mut self,
@@ -137,6 +139,7 @@ impl<J: Naming> PeerState<J> {
         ensures memory { result ≡ Err OrderError.Memory → (named : NamedLegValue) → leg_at self.old.legs name.number ≡ Some named
             → is_voice (media_sent named.leg now) ≡ true }
         ensures err { OnErr result ((self.new ≡ self.old) × (pass.new ≡ pass.old)) }
+        ensures no_memory { result ≡ Err OrderError.Memory → WasRefused }
     {
         let number = self.legs.call_number(name.number);
         let sent = self.send_media(name, media, now)?;
@@ -165,6 +168,7 @@ impl<J: Naming> PeerState<J> {
         ensures memory { result ≡ Err OrderError.Memory → (named : NamedLegValue) → leg_at self.old.legs name.number ≡ Some named
             → is_voice (media_sent named.leg now) ≡ true }
         ensures err { OnErr result (self.new ≡ self.old) }
+        ensures no_memory { result ≡ Err OrderError.Memory → WasRefused }
     {
         let number = self.legs.call_number(name.number);
         self.replies.clear();
@@ -196,6 +200,7 @@ impl<J: Naming> PeerState<J> {
         ensures memory { result ≡ Err OrderError.Memory → (named : NamedLegValue) → leg_at self.old.legs name.number ≡ Some named
             → wants_memory named.leg order.now now ≡ true }
         ensures err { OnErr result (self.new ≡ self.old) }
+        ensures no_memory { result ≡ Err OrderError.Memory → WasRefused }
     {
         let number = self.legs.call_number(name.number);
         self.replies.clear();
@@ -237,6 +242,7 @@ impl<J: Naming> PeerState<J> {
         ensures memory { result ≡ Err OrderError.Memory → (named : NamedLegValue) → leg_named self.old.legs name ≡ Some named
             → wants_memory named.leg order.now now ≡ true }
         ensures err { OnErr result ((self.new ≡ self.old) × (pass.new ≡ pass.old)) }
+        ensures no_memory { result ≡ Err OrderError.Memory → WasRefused }
     {
         if self.account.is_spent() {
             return Err(OrderError::StepsSpent);

@@ -7,7 +7,7 @@ ghost use Rattle.trunk_packer.specs.Queue.{media_octets, trunk_octets};
 use iax_frames::CallNumber;
 use leg_machine::{PeerRules, Replies};
 use outbox::Outbox;
-use peer_accounts::{Account, Naming};
+use peer_accounts::{Account, LedgerSet};
 use trunk_packer::{Packer, entry_head_len};
 
 // Puts the first of these datagrams into the outbox, as many as fit.
@@ -63,7 +63,7 @@ pub(crate) fn is_next(rules: &PeerRules, queue: &Packer, number: CallNumber, oct
 }
 
 // Sends the whole queue as one trunk frame if `goes` is true. The frame has `since`, the moment of the oldest entry.
-pub(crate) fn flush_if<J: Naming>(
+pub(crate) fn flush_if<J: LedgerSet>(
     goes: bool,
     timed: bool,
     since: u64,

@@ -1,4 +1,5 @@
-//! The POKEs by which the exchange asks whether a peer is there, and their PONGs (RFC 5456, sections 6.7.1, "POKE Request Message",
+//! The POKEs by which the exchange asks whether a peer is there, and their PONGs (RFC 5456, sections 6.7.1, "POKE Request
+//! Message",
 //! and 6.7.3, "PONG Response Message").
 ghost use Rattle.std.specs.Prelude.{◌≡◌, ◌≤◌};
 ghost use Rattle.peer_lock.specs.Pokes as pokes;
@@ -78,7 +79,8 @@ impl Pokes {
         }
     }
 
-    /// Returns the moment of the first POKE of the last run without an answer: `max_retries` + 1 POKEs, and `retry_ms` have passed since
+    /// Returns the moment of the first POKE of the last run without an answer: `max_retries` + 1 POKEs, and `retry_ms` have
+    /// passed since
     /// the last, or the next run began. `None` if there was no such run since the last PONG that counted.
     pub fn unanswered_since(&self, rules: &PeerRules, now: u64) -> Option<u64>
         ensures { result ≡ pokes.unanswered_since rules.now self.now now }

@@ -1,6 +1,7 @@
 //! The state of one peer, under its lock.
-ghost use Rattle.std.specs.Prelude.{◌≡◌, ◌+◌, ◌^◌, ◌<◌, ◌≤◌, [], ◌∷◌, ◌↔◌, length, replicate, option_map, None, Some, false, true, count_by, is_some};
-ghost use Rattle.std.specs.Prelude.{IfOk, IfErr, IsErr, IsNone, IfNone, IfSome, OnSome, MatchOption};
+ghost use Rattle.std.specs.Prelude.{◌≡◌, ◌+◌, ◌^◌, ◌<◌, ◌≤◌, [], ◌∷◌, ◌↔◌, length, replicate, option_map, None, Some, false};
+ghost use Rattle.std.specs.Prelude.{true, count_by, is_some};
+ghost use Rattle.std.specs.Prelude.{IfOk, IfErr, IsErr, IsNone, IfNone, IfSome, OnErr, OnSome, MatchOption};
 ghost use Rattle.std.specs.Bool.{OnTrue, OnFalse};
 ghost use Rattle.call_signals.specs.declared.rules.PeerRules.{PeerRules as PeerRulesValue};
 ghost use Rattle.leg_machine.specs.PeerRules.{IsPeerRules};
@@ -13,6 +14,7 @@ ghost use Rattle.peer_lock.specs.SoundPeer.{IsSoundPeer};
 ghost use Rattle.peer_lock.specs.Statuses.{IsHistory, facts_of, status_of, is_done};
 ghost use Rattle.peer_lock.specs.Trunks.{waits};
 ghost use Rattle.trunk_packer.specs.Queue.{media_octets};
+ghost use Rattle.memory_requests.specs.Refused.{WasRefused};
 
 use crate::closed::ClosedPeer;
 use crate::outboxes::flush_if;
@@ -22,8 +24,9 @@ use call_book::{Lease, LegName};
 use iax_frames::Out;
 use leg_machine::{PeerRules, Replies};
 use media_ledger::Share;
+use memory_requests::boxed;
 use outbox::Outbox;
-use peer_accounts::{Account, Naming};
+use peer_accounts::{Account, LedgerSet};
 use peer_legs::PeerLegs;
 use std::alloc::{AllocError, Global};
 use std::marker::Model;
@@ -36,7 +39,7 @@ use trunk_packer::Packer;
 /// `take_into` and `take_out` empty the outbox, `retire` gives up a leg that is over, and `part` gives up the shares.
 /// `look`, `describe` and `sums` are read-only. `new` makes all room except that of the legs' records. No call waits or
 /// reads a clock.
-pub struct PeerState<J: Naming> {
+pub struct PeerState<J: LedgerSet> {
     pub(crate) alloc: Global,
     pub(crate) rules: PeerRules,
     pub(crate) legs: PeerLegs,
@@ -53,7 +56,7 @@ pub struct PeerState<J: Naming> {
 }
 
 // Written out, so that an owner proves one call at its drop, not the drop of each field.
-impl<J: Naming> Drop for PeerState<J> {
+impl<J: LedgerSet> Drop for PeerState<J> {
     fn drop(self) {
         let PeerState {
             alloc: _,
@@ -70,16 +73,34 @@ impl<J: Naming> Drop for PeerState<J> {
     }
 }
 
-impl<J: Naming> Model for PeerState<J> {
+impl<J: LedgerSet> Model for PeerState<J> {
     ghost use Rattle.peer_lock.specs.Peer.{PeerView};
     ghost use Rattle.peer_lock.specs.SoundPeer.{IsKept};
 
     ghost Value = { PeerView };
 
-    ghost view = { λ s. record { rules = s.rules; legs = s.legs; outbox = s.outbox; queue = s.queue; since = s.since; drains = s.drains; pokes = s.pokes; accounts = s.account } };
+    ghost view = { λ s. record {
+      rules = s.rules;
+      legs = s.legs;
+      outbox = s.outbox;
+      queue = s.queue;
+      since = s.since;
+      drains = s.drains;
+      pokes = s.pokes;
+      accounts = s.account;
+    } };
 
     ghost invariant = { λ s.
-        IsKept (record { rules = s.rules; legs = s.legs; outbox = s.outbox; queue = s.queue; since = s.since; drains = s.drains; pokes = s.pokes; accounts = s.account }) };
+        IsKept (record {
+          rules = s.rules;
+          legs = s.legs;
+          outbox = s.outbox;
+          queue = s.queue;
+          since = s.since;
+          drains = s.drains;
+          pokes = s.pokes;
+          accounts = s.account;
+        }) };
 }
 
 // Reserves the memory of a peer.
@@ -98,17 +119,18 @@ fn rooms(
     ensures queue { IfOk result (λ made. made.2 ≡ []) }
     ensures sound { IfOk result (λ made. AreLegs made.0) }
     ensures ruled { IfOk result (λ made. (rules : PeerRulesValue) → AreLegsOf rules made.0) }
+    ensures no_memory { OnErr result WasRefused }
 {
     let legs = PeerLegs::new(alloc, peer, first, count)?;
     let outbox = Outbox::new(alloc)?;
     let packer = Packer::new(alloc)?;
-    match Box::new(alloc, Replies::new()) {
+    match boxed(alloc, Replies::new()) {
         Ok(replies) => Ok((legs, outbox, packer, replies)),
         Err(_) => Err(AllocError),
     }
 }
 
-impl<J: Naming> PeerState<J> {
+impl<J: LedgerSet> PeerState<J> {
     /// Returns a peer without a leg, at this place of the plan. It has `count` local numbers, 1 ..= 512, from the first on,
     /// all of them 1 ..= 32,767. The shares are the first ones of a peer. Returns `Err` only if memory was refused; the
     /// shares come back.
@@ -135,6 +157,7 @@ impl<J: Naming> PeerState<J> {
         ensures accounts { IfOk result (λ state. state.accounts ≡ no_accounts) }
         ensures sound { IfOk result IsSoundPeer }
         ensures shares { IfErr result (λ back. (back.0 ≡ octets) × (back.1 ≡ steps)) }
+        ensures no_memory { OnErr result WasRefused }
     {
         match rooms(alloc, peer, first, count) {
             Ok((legs, outbox, queue, replies)) => Ok(PeerState {
@@ -164,6 +187,7 @@ impl<J: Naming> PeerState<J> {
     /// Returns the number of the peer's legs, 0 ..= 512.
     pub fn leg_count(&self) -> usize
         ensures count { result ≡ count_by is_some self.now.legs.places }
+        ensures most { result ≤ 512 }
     {
         self.legs.leg_count()
     }

@@ -15,9 +15,9 @@ use crate::pokes::poke_head;
 use crate::state::PeerState;
 use crate::steps::TickReport;
 use iax_frames::write_full;
-use peer_accounts::{Naming, Pass};
+use peer_accounts::{LedgerSet, Pass};
 
-impl<J: Naming> PeerState<J> {
+impl<J: LedgerSet> PeerState<J> {
     // Sends a POKE, if one is due.
     #[tactic(auto, using(outbox::proofs::Puts::put_none))]
     fn poke_if_due(&mut self, now: u64)
@@ -87,7 +87,7 @@ impl<J: Naming> PeerState<J> {
         for index in 0..count {
             skipped += self.tick_place(index, now);
         }
-        self.legs.settle();
+        self.legs.refresh_idle();
         skipped
     }
 

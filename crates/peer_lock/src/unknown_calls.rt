@@ -23,7 +23,7 @@ use call_signals::reply_elements::append_cause;
 use iax_frames::{CallNumber, Full, FullHead, Payload, write_full};
 use info_elements::{CALLTOKEN, append_to, last_in};
 use leg_machine::{Cause, Judged, Message, PeerRules};
-use peer_accounts::{Naming, Pass};
+use peer_accounts::{LedgerSet, Pass};
 
 /// The data of an answer.
 #[derive(Clone, Copy)]
@@ -221,7 +221,7 @@ fn answer_data(says: AnswerData) -> Payload
     data
 }
 
-impl<J: Naming> PeerState<J> {
+impl<J: LedgerSet> PeerState<J> {
     // Sends this answer in a step without a leg.
     pub(crate) fn answer_alone(&mut self, pass: &mut Pass<J>, answer: &Answer) -> Step
         requires { self.old.accounts.steps ≢ J.first_steps }
@@ -250,13 +250,17 @@ impl<J: Naming> PeerState<J> {
         now: u64,
     ) -> Result<Step, PeerError>
         requires { self.old.accounts.steps ≢ J.first_steps }
-        ensures peer { OnOk result ((answer : AnswerValue) → unknown_call self.old.drains self.old.rules frame.now now ≡ Gets answer →
+        ensures peer { OnOk result ((answer : AnswerValue) → unknown_call self.old.drains self.old.rules frame.now now
+            ≡ Gets answer →
             self.new ≡ (answering self.old answer).peer) }
-        ensures answer { OnOk result ((answer : AnswerValue) × (unknown_call self.old.drains self.old.rules frame.now now ≡ Gets answer)) }
-        ensures step { IfOk result (λ step. (answer : AnswerValue) → unknown_call self.old.drains self.old.rules frame.now now ≡ Gets answer →
+        ensures answer { OnOk result ((answer : AnswerValue) ×
+            (unknown_call self.old.drains self.old.rules frame.now now ≡ Gets answer)) }
+        ensures step { IfOk result (λ step. (answer : AnswerValue) → unknown_call self.old.drains self.old.rules frame.now now
+            ≡ Gets answer →
             step ≡ (answering self.old answer).step) }
         ensures credit { OnOk result (pass.new ≡ with_credit pass.old 0) }
-        ensures refused { IfErr result (λ e. Some e ≡ delivery_refused (unknown_call self.old.drains self.old.rules frame.now now)) }
+        ensures refused { IfErr result (λ e. Some e ≡ delivery_refused (unknown_call self.old.drains self.old.rules frame.now
+            now)) }
         ensures err { OnErr result ((self.new ≡ self.old) × (pass.new ≡ pass.old)) }
     {
         let answer = answer_to(frame, self.drains, &self.rules, now)?;
@@ -293,7 +297,8 @@ impl<J: Naming> PeerState<J> {
     ) -> Result<Step, PeerError>
         requires { self.old.accounts.steps ≢ J.first_steps }
         ensures made { IfOk result (λ step. MakesAlone (delivered_step J.first_octets self.old
-            (legless self.old.drains self.old.rules self.old.pokes frame.now now) frame.now now) self.new step pass.old pass.new) }
+            (legless self.old.drains self.old.rules self.old.pokes frame.now now) frame.now now) self.new step pass.old
+            pass.new) }
         ensures unrefused { OnOk result (delivery_refused
             (legless self.old.drains self.old.rules self.old.pokes frame.now now) ≡ None) }
         ensures refused { IfErr result (λ e. Some e ≡ delivery_refused

@@ -16,7 +16,8 @@ kept field drawn same [] = refl
 kept field drawn same (peer ∷ peers) =
     ap (λ b. b ∷ map field (map (with_drawn drawn) peers)) (same peer) ∙ ap (λ bs. field peer ∷ bs) (kept field drawn same peers)
 
-same_at : {B : Type 0} (field : Peer → B) (xs ys : List Peer) (i : ℕ) (d : Peer) → map field ys ≡ map field xs → field (get_or ys i d) ≡ field (get_or xs i d)
+same_at : {B : Type 0} (field : Peer → B) (xs ys : List Peer) (i : ℕ) (d : Peer) → map field ys ≡ map field xs
+    → field (get_or ys i d) ≡ field (get_or xs i d)
 same_at field xs ys i d same =
     sym (get_or-map field ys i d) ∙ ap (λ bs. get_or bs i (field d)) same ∙ get_or-map field xs i d
 
@@ -24,7 +25,8 @@ same_at field xs ys i d same =
 apart : {B : Type 0} (field : Peer → B) (xs ys : List Peer) → map field ys ≡ map field xs → length ys ≡ length xs
     → AllPairs (λ peer other. field peer ≢ field other) xs → AllPairs (λ peer other. field peer ≢ field other) ys
 apart field xs ys same long pairs i j d before within alike =
-    pairs i j d before (subst (λ n. j < n) long within) (sym (same_at field xs ys i d same) ∙ alike ∙ same_at field xs ys j d same)
+    pairs i j d before (subst (λ n. j < n) long within) (sym (same_at field xs ys i d same) ∙ alike ∙ same_at field xs ys j d
+    same)
 
 drawn_peer : (drawn : Drawn) (workers : ℕ) (peer : Peer) → IsPeer workers peer → IsPeer workers (with_drawn drawn peer)
 drawn_peer drawn workers peer is = record {
@@ -52,10 +54,12 @@ drawn_peer drawn workers peer is = record {
 pub counts_kept : (drawn : Drawn) (peers : List Peer) → counts_of (map (with_drawn drawn) peers) ≡ counts_of peers
 counts_kept drawn peers = kept (λ peer. peer.numbers) drawn (λ peer. refl) peers
 
-pub endpoints_kept : (drawn : Drawn) (peers : List Peer) → map (λ (peer : Peer). peer.endpoint) (map (with_drawn drawn) peers) ≡ map (λ (peer : Peer). peer.endpoint) peers
+pub endpoints_kept : (drawn : Drawn) (peers : List Peer) → map (λ (peer : Peer). peer.endpoint) (map (with_drawn drawn) peers)
+    ≡ map (λ (peer : Peer). peer.endpoint) peers
 endpoints_kept drawn peers = kept (λ peer. peer.endpoint) drawn (λ peer. refl) peers
 
-pub drawn_plan : (drawn : Drawn) (plan : PlanView) → IsPlan plan → IsPlan (record plan { peers = map (with_drawn drawn) plan.peers })
+pub drawn_plan : (drawn : Drawn) (plan : PlanView) → IsPlan plan
+    → IsPlan (record plan { peers = map (with_drawn drawn) plan.peers })
 drawn_plan drawn plan is =
     let more = map (with_drawn drawn) plan.peers in
     let long : length more ≡ length plan.peers = length-map plan.peers (with_drawn drawn) in

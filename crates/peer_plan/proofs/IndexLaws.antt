@@ -1,5 +1,7 @@
 -- Searching a sorted index of routes.
-use Rattle.std.proofs.Common.{◌≡◌, ◌≢◌, ℕ, zero, suc, ◌+◌, ◌-◌, ◌<◌, ◌≤◌, Bool, true, false, cond, ◌&&◌, List, [], ◌∷◌, length, get_or, Option, Some, None, Result, Ok, Err, Ordering, Less, Equal, Greater, is_lt, is_eq, nat_cmp, refl, sym, ap, subst, ◌∙◌, ⊎_elim, arith}
+use Rattle.std.proofs.Common.{◌≡◌, ◌≢◌, ℕ, zero, suc, ◌+◌, ◌-◌, ◌<◌, ◌≤◌, Bool, true, false, cond, ◌&&◌, List, [], ◌∷◌, length}
+use Rattle.std.proofs.Common.{get_or, Option, Some, None, Result, Ok, Err, Ordering, Less, Equal, Greater, is_lt, is_eq, nat_cmp}
+use Rattle.std.proofs.Common.{refl, sym, ap, subst, ◌∙◌, ⊎_elim, arith}
 use Rattle.std.specs.Prelude.{All, Contains, IfSome, IfNone, is_some, nat_eq}
 use Rattle.std.specs.Cmp.{IsTotalOrder, IsStrictWeakOrder}
 use Rattle.std.specs.Cmp.Lexicographic.{slice_cmp, options_total}
@@ -25,7 +27,8 @@ use Rattle.peer_plan.specs.RouteIndex.{Way, way_of, way_at, way_cmp, IsIndex}
 -- ---- the order of prefixes and sources
 
 pub way_total : IsTotalOrder way_cmp
-way_total = then_total (on_total (λ (way : Way). way.0) nat_list_cmp_total) (on_total (λ (way : Way). way.1) (options_total nat_cmp_total))
+way_total = then_total (on_total (λ (way : Way). way.0) nat_list_cmp_total)
+    (on_total (λ (way : Way). way.1) (options_total nat_cmp_total))
 
 -- by which places are sorted
 abbrev pub is_before : List Route → ℕ → ℕ → Bool
@@ -64,15 +67,18 @@ same_way way other h =
 
 -- ---- a sorted list of all places
 
-pub index_from_sort : (routes : List Route) (n : ℕ) (index : List ℕ) → n ≡ length routes → IsPermutation (range_with_len 0 n) index → IsSortedBy (is_before routes) index → IsIndex routes index
+pub index_from_sort : (routes : List Route) (n : ℕ) (index : List ℕ) → n ≡ length routes
+    → IsPermutation (range_with_len 0 n) index → IsSortedBy (is_before routes) index → IsIndex routes index
 index_from_sort routes n index long moved up =
     let all = range_with_len 0 n in
     let len = length-range_with_len 0 n in
     record {
-      within = All-permutation (λ place. place < length routes) all index moved (λ k d lt. let at = get_or-range_with_len 0 n k d (omega (arith, len, lt)) in omega (arith, at, len, lt, long));
+      within = All-permutation (λ place. place < length routes) all index moved (λ k d lt. let at = get_or-range_with_len 0 n k d
+          (omega (arith, len, lt)) in omega (arith, at, len, lt, long));
       whole = λ place lt.
           let at = get_or-range_with_len 0 n place 0 (omega (arith, long, lt)) in
-          sym (list_any-IsPermutation (nat_eq place) all index moved) ∙ list_any_at (nat_eq place) all place 0 (omega (arith, len, long, lt)) (grind (arith, nat_tests, at));
+          sym (list_any-IsPermutation (nat_eq place) all index moved) ∙ list_any_at (nat_eq place) all place 0
+          (omega (arith, len, long, lt)) (grind (arith, nat_tests, at));
       once = IsDistinct-IsPermutation nat_eq (λ x y. grind (arith, nat_tests)) all index moved
           (IsDistinct-from_apart nat_eq all (λ i j d before lt.
           let one = get_or-range_with_len 0 n i d (omega (arith, len, lt, before)) in
@@ -82,7 +88,8 @@ index_from_sort routes n index long moved up =
     }
 
 -- the place of the index that has a place of the routes
-pub listed : (routes : List Route) (index : List ℕ) (place : ℕ) → IsIndex routes index → place < length routes → (at : ℕ) × (at < length index) × (get_or index at 0 ≡ place)
+pub listed : (routes : List Route) (index : List ℕ) (place : ℕ) → IsIndex routes index → place < length routes → (at : ℕ) ×
+    (at < length index) × (get_or index at 0 ≡ place)
 listed routes index place is lt =
     let any = Any-from_list_any (nat_eq place) index (is.whole place lt) in
     let is_place : place ≡ any.1 = grind (arith, nat_tests, any.4) in
@@ -93,13 +100,22 @@ listed routes index place is lt =
 -- the outcome of a search for a prefix and a source
 abbrev pub Found : List Route → List ℕ → Way → Result ℕ ℕ → Type 0
 Found routes index way r =
-    MatchResult r (λ at. (at < length index) × (get_or index at 0 < length routes) × (way_at routes (get_or index at 0) ≡ way)) (λ _. (place : ℕ) → place < length routes → way_at routes place ≢ way)
+    MatchResult r (λ at. (at < length index) × (get_or index at 0 < length routes) × (way_at routes (get_or index at 0) ≡ way))
+    (λ _. (place : ℕ) → place < length routes → way_at routes place ≢ way)
 
-pub found_way : (routes : List Route) (index : List ℕ) (way : Way) (r : Result ℕ ℕ) → IsIndex routes index → IsSearchInRange r (length index) → IsBinarySearchResult (λ place. way_cmp (way_at routes place) way) index r → Found routes index way r
-found_way routes index way (Ok at) is range equal = (range, is.within at 0 range, same_way (way_at routes (get_or index at 0)) way (equal 0))
+pub found_way : (routes : List Route) (index : List ℕ) (way : Way) (r : Result ℕ ℕ) → IsIndex routes index
+    → IsSearchInRange r (length index) → IsBinarySearchResult (λ place. way_cmp (way_at routes place) way) index r
+    → Found routes index way r
+found_way routes index way (Ok at) is range equal = (
+  range,
+  is.within at 0 range,
+  same_way (way_at routes (get_or index at 0)) way
+      (equal 0),
+)
 found_way routes index way (Err at) is range parted = λ place lt same.
     let here = listed routes index place is lt in
-    let tied : way_cmp (way_at routes (get_or index here.0 0)) way ≡ Equal = ap (λ p. way_cmp (way_at routes p) way) here.2 ∙ ap (λ w. way_cmp w way) same ∙ tied_itself way_total way in
+    let tied : way_cmp (way_at routes (get_or index here.0 0)) way ≡ Equal = ap (λ p. way_cmp (way_at routes p) way) here.2
+    ∙ ap (λ w. way_cmp w way) same ∙ tied_itself way_total way in
     let parts = parted (searchable_from_sorted way_total (way_at routes) index way is.sorted) in
     ⊎_elim
     (λ below. let less = parts.0 here.0 0 (omega arith) below in cc)
@@ -107,7 +123,8 @@ found_way routes index way (Err at) is range parted = λ place lt same.
     (cases_lt here.0 at)
 
 -- the route at a place
-pub way_here : (routes : List Route) (place : ℕ) (d : Route) → place < length routes → way_at routes place ≡ ((get_or routes place d).prefix, (get_or routes place d).source)
+pub way_here : (routes : List Route) (place : ℕ) (d : Route) → place < length routes
+    → way_at routes place ≡ ((get_or routes place d).prefix, (get_or routes place d).source)
 way_here [] place d lt = absurd (omega arith)
 way_here (route ∷ routes) zero d lt = refl
 way_here (route ∷ routes) (suc place) d lt = way_here routes place d (omega arith)
@@ -144,20 +161,24 @@ test_is route prefix source h =
 
 test_of : (route : Route) (prefix : List ℕ) (source : Option ℕ) → AreSame route prefix source → is_way prefix source route ≡ true
 test_of route prefix source same =
-    and_true (bytes_eq route.prefix prefix) (option_eq nat_eq route.source source) ((bytes_eq-Decides route.prefix prefix).1 same.0) (source_test route.source source same.1)
+    and_true (bytes_eq route.prefix prefix) (option_eq nat_eq route.source source) ((bytes_eq-Decides route.prefix prefix).1
+    same.0) (source_test route.source source same.1)
 
 -- a search says whether there is one
 pub has_if_found : {A : Type 0} (found : Option A) (now : A → Route) (routes : List Route) (prefix : List ℕ) (source : Option ℕ)
     → IfSome found (λ a. Contains routes (now a) × ((now a).prefix ≡ prefix) × ((now a).source ≡ source))
-    → IfNone found (All (λ route. route.prefix ≡ prefix → route.source ≢ source) routes) → is_some found ≡ has_way prefix source routes
+    → IfNone found (All (λ route. route.prefix ≡ prefix → route.source ≢ source) routes)
+    → is_some found ≡ has_way prefix source routes
 has_if_found (Some a) now routes prefix source there none =
     let listed = there.0 in
     let same = test_of (now a) prefix source (there.1, there.2) in
     sym (list_any_at (is_way prefix source) routes listed.0 (now a) listed.1 (ap (is_way prefix source) listed.2 ∙ same))
 has_if_found None now routes prefix source there none =
-    sym (list_any_none (is_way prefix source) routes (λ k d lt. go (get_or routes k d) (is_way prefix source (get_or routes k d)) refl (none k d lt)))
+    sym (list_any_none (is_way prefix source) routes (λ k d lt. go (get_or routes k d) (is_way prefix source (get_or routes k d))
+    refl (none k d lt)))
   where
-    go : (route : Route) (b : Bool) → is_way prefix source route ≡ b → (route.prefix ≡ prefix → route.source ≢ source) → is_way prefix source route ≡ false
+    go : (route : Route) (b : Bool) → is_way prefix source route ≡ b → (route.prefix ≡ prefix → route.source ≢ source)
+        → is_way prefix source route ≡ false
     go route true is differ = let same = test_is route prefix source is in absurd (differ same.0 same.1)
     go route false is differ = is
 
@@ -170,35 +191,54 @@ pub record HasTwo (routes : List Route) : Type 0 where
   pub same : way_at routes first ≡ way_at routes second
 
 two_behind : (route : Route) (routes : List Route) → HasTwo routes → HasTwo (route ∷ routes)
-two_behind route routes two = record { first = suc two.first; second = suc two.second; before = omega (arith, two.before); within = omega (arith, two.within); same = two.same }
+two_behind route routes two = record {
+  first = suc two.first;
+  second = suc two.second;
+  before = omega (arith, two.before);
+  within = omega (arith, two.within);
+  same = two.same;
+}
 
-two_here : (route : Route) (routes : List Route) → list_any (λ other. is_way other.prefix other.source route) routes ≡ true → HasTwo (route ∷ routes)
+two_here : (route : Route) (routes : List Route) → list_any (λ other. is_way other.prefix other.source route) routes ≡ true
+    → HasTwo (route ∷ routes)
 two_here route routes h =
     let any = Any-from_list_any (λ other. is_way other.prefix other.source route) routes h in
     let same = test_is route any.1.prefix any.1.source any.4 in
-    let there : way_at routes any.0 ≡ (any.1.prefix, any.1.source) = way_here routes any.0 any.1 any.2 ∙ ap (λ (r : Route). (r.prefix, r.source)) any.3 in
+    let there : way_at routes any.0 ≡ (any.1.prefix, any.1.source) = way_here routes any.0 any.1 any.2
+    ∙ ap (λ (r : Route). (r.prefix, r.source)) any.3 in
     let pair : way_of (Some route) ≡ way_of (Some any.1) = λ i. (same.0 i, same.1 i) in
     record { first = 0; second = suc any.0; before = omega arith; within = omega (arith, any.2); same = pair ∙ sym there }
 
 pub two_from_same : (routes : List Route) → has_same_way routes ≡ true → HasTwo routes
 two_from_same [] h = absurd (true≢false (sym h))
-two_from_same (route ∷ routes) h = go (list_any (λ other. is_way other.prefix other.source route) routes) refl h (λ same. two_from_same routes same)
+two_from_same (route ∷ routes) h = go (list_any (λ other. is_way other.prefix other.source route) routes) refl h
+    (λ same. two_from_same routes same)
   where
-    go : (b : Bool) → list_any (λ other. is_way other.prefix other.source route) routes ≡ b → cond b true (has_same_way routes) ≡ true → (has_same_way routes ≡ true → HasTwo routes) → HasTwo (route ∷ routes)
+    go : (b : Bool) → list_any (λ other. is_way other.prefix other.source route) routes ≡ b → cond b true (has_same_way routes)
+        ≡ true → (has_same_way routes ≡ true → HasTwo routes) → HasTwo (route ∷ routes)
     go true is h rest = two_here route routes is
     go false is h rest = two_behind route routes (rest h)
 
-same_here : (route : Route) (routes : List Route) (place : ℕ) → place < length routes → (route.prefix, route.source) ≡ way_at routes place → list_any (λ other. is_way other.prefix other.source route) routes ≡ true
+same_here : (route : Route) (routes : List Route) (place : ℕ) → place < length routes
+    → (route.prefix, route.source) ≡ way_at routes place → list_any (λ other. is_way other.prefix other.source route) routes
+    ≡ true
 same_here route routes place lt same =
     let there = same ∙ way_here routes place route lt in
-    list_any_at (λ other. is_way other.prefix other.source route) routes place route lt (test_of route (get_or routes place route).prefix (get_or routes place route).source (ap (λ (way : Way). way.0) there, ap (λ (way : Way). way.1) there))
+    list_any_at (λ other. is_way other.prefix other.source route) routes place route lt
+    (test_of route (get_or routes place route).prefix (get_or routes place route).source (
+      ap (λ (way : Way). way.0) there,
+      ap (λ (way : Way). way.1) there,
+    ))
 
-pub same_from_two : (routes : List Route) (first second : ℕ) → first < second → second < length routes → way_at routes first ≡ way_at routes second → has_same_way routes ≡ true
+pub same_from_two : (routes : List Route) (first second : ℕ) → first < second → second < length routes
+    → way_at routes first ≡ way_at routes second → has_same_way routes ≡ true
 same_from_two [] first second before lt same = absurd (omega arith)
 same_from_two (route ∷ routes) first zero before lt same = absurd (omega arith)
 same_from_two (route ∷ routes) zero (suc second) before lt same =
     ap (λ b. cond b true (has_same_way routes)) (same_here route routes second (omega arith) same)
-same_from_two (route ∷ routes) (suc first) (suc second) before lt same = go (list_any (λ other. is_way other.prefix other.source route) routes) (same_from_two routes first second (omega arith) (omega arith) same)
+same_from_two (route ∷ routes) (suc first) (suc second) before lt same =
+    go (list_any (λ other. is_way other.prefix other.source route) routes) (same_from_two routes first second (omega arith)
+    (omega arith) same)
   where
     go : (b : Bool) → has_same_way routes ≡ true → cond b true (has_same_way routes) ≡ true
     go true h = refl
@@ -206,7 +246,8 @@ same_from_two (route ∷ routes) (suc first) (suc second) before lt same = go (l
 
 -- ---- neighbours in an index
 
-pub neighbours_same : (routes : List Route) (index : List ℕ) (at : ℕ) → IsIndex routes index → 0 < at → at < length index → way_cmp (way_at routes (get_or index at 0)) (way_at routes (get_or index (at - 1) 0)) ≡ Equal → has_same_way routes ≡ true
+pub neighbours_same : (routes : List Route) (index : List ℕ) (at : ℕ) → IsIndex routes index → 0 < at → at < length index
+    → way_cmp (way_at routes (get_or index at 0)) (way_at routes (get_or index (at - 1) 0)) ≡ Equal → has_same_way routes ≡ true
 neighbours_same routes index at is more lt h =
     let a = get_or index (at - 1) 0 in
     let b = get_or index at 0 in
@@ -236,21 +277,27 @@ above a b low differ = go (way_cmp b a) refl low differ
 
 -- neighbours that differ
 abbrev pub Differ : List Route → List ℕ → ℕ → Type 0
-Differ routes index n = (at : ℕ) → 0 < at → at < n → way_cmp (way_at routes (get_or index at 0)) (way_at routes (get_or index (at - 1) 0)) ≡ Equal → ⊥
+Differ routes index n = (at : ℕ) → 0 < at → at < n → way_cmp (way_at routes (get_or index at 0))
+    (way_at routes (get_or index (at - 1) 0)) ≡ Equal → ⊥
 
-far_differ : (routes : List Route) (index : List ℕ) (p q : ℕ) → IsIndex routes index → Differ routes index (length index) → p < q → q < length index → way_at routes (get_or index p 0) ≢ way_at routes (get_or index q 0)
+far_differ : (routes : List Route) (index : List ℕ) (p q : ℕ) → IsIndex routes index → Differ routes index (length index) → p < q
+    → q < length index → way_at routes (get_or index p 0) ≢ way_at routes (get_or index q 0)
 far_differ routes index p q is differ before lt same =
     let a = way_at routes (get_or index p 0) in
     let b = way_at routes (get_or index (p + 1) 0) in
     let c = way_at routes (get_or index q 0) in
     let down : p + 1 - 1 ≡ p = omega arith in
-    let next : way_cmp b a ≡ Equal → ⊥ = λ e. differ (p + 1) (omega arith) (omega arith) (subst (λ n. way_cmp b (way_at routes (get_or index n 0)) ≡ Equal) (sym down) e) in
-    let low : is_lt (way_cmp b a) ≡ false = sorted_far (is_before routes) (before_is_order routes) index is.sorted p (p + 1) 0 (omega arith) (omega arith) in
+    let next : way_cmp b a ≡ Equal → ⊥ = λ e. differ (p + 1) (omega arith) (omega arith)
+    (subst (λ n. way_cmp b (way_at routes (get_or index n 0)) ≡ Equal) (sym down) e) in
+    let low : is_lt (way_cmp b a) ≡ false = sorted_far (is_before routes) (before_is_order routes) index is.sorted p (p + 1) 0
+    (omega arith) (omega arith) in
     let less : way_cmp a b ≡ Less = above a b low next in
-    let far : is_lt (way_cmp c b) ≡ false = sorted_far (is_before routes) (before_is_order routes) index is.sorted (p + 1) q 0 (omega arith) lt in
+    let far : is_lt (way_cmp c b) ≡ false = sorted_far (is_before routes) (before_is_order routes) index is.sorted (p + 1) q 0
+    (omega arith) lt in
     true≢false (sym (ap is_lt (sym (ap (λ w. way_cmp w b) same) ∙ less)) ∙ far)
 
-pub neighbours_differ : (routes : List Route) (index : List ℕ) (n : ℕ) → IsIndex routes index → length index ≤ n → Differ routes index n → has_same_way routes ≡ false
+pub neighbours_differ : (routes : List Route) (index : List ℕ) (n : ℕ) → IsIndex routes index → length index ≤ n
+    → Differ routes index n → has_same_way routes ≡ false
 neighbours_differ routes index n is le apart = go (has_same_way routes) refl
   where
     none : HasTwo routes → ⊥
@@ -258,8 +305,10 @@ neighbours_differ routes index n is le apart = go (has_same_way routes) refl
         let one = listed routes index two.first is (omega (arith, two.before, two.within)) in
         let other = listed routes index two.second is two.within in
         let differ : Differ routes index (length index) = λ at more lt. apart at more (omega (arith, le, lt)) in
-        let same : way_at routes (get_or index one.0 0) ≡ way_at routes (get_or index other.0 0) = ap (way_at routes) one.2 ∙ two.same ∙ sym (ap (way_at routes) other.2) in
-        let places : one.0 ≢ other.0 = λ e. let same_place : two.first ≡ two.second = sym one.2 ∙ ap (λ k. get_or index k 0) e ∙ other.2 in omega (arith, two.before, same_place) in
+        let same : way_at routes (get_or index one.0 0) ≡ way_at routes (get_or index other.0 0) = ap (way_at routes) one.2
+        ∙ two.same ∙ sym (ap (way_at routes) other.2) in
+        let places : one.0 ≢ other.0 = λ e. let same_place : two.first ≡ two.second = sym one.2 ∙ ap (λ k. get_or index k 0) e
+        ∙ other.2 in omega (arith, two.before, same_place) in
         ⊎_elim
         (λ before. far_differ routes index one.0 other.0 is differ before other.1 same)
         (λ behind. far_differ routes index other.0 one.0 is differ (omega (arith, behind, places)) one.1 (sym same))

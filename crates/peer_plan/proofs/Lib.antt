@@ -7,6 +7,7 @@ mod IndexLaws
 mod RouteLaws
 mod RoutesRead
 mod ReadingLaws
+mod PlanLimits
 mod PlanLaws
 pub mod EndpointLaws
 mod PeerLaws

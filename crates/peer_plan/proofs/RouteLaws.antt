@@ -1,5 +1,6 @@
 -- The nearest of the routes.
-use Rattle.std.proofs.Common.{◌≡◌, ◌≢◌, ℕ, ◌<◌, ◌≤◌, ◌+◌, ◌*◌, Bool, true, false, cond, ◌&&◌, ◌==◌, List, length, get_or, None, Ok, take, min, refl, sym, ap, subst, ◌∙◌, ⊎_elim, arith, is_some, length-take}
+use Rattle.std.proofs.Common.{◌≡◌, ◌≢◌, ℕ, ◌<◌, ◌≤◌, ◌+◌, ◌*◌, Bool, true, false, cond, ◌&&◌, ◌==◌, List, length, get_or, None}
+use Rattle.std.proofs.Common.{Ok, take, min, refl, sym, ap, subst, ◌∙◌, ⊎_elim, arith, is_some, length-take}
 use Rattle.std.specs.Prelude.{All, Contains}
 use Rattle.std.proofs.lemmas.Bool.{true≢false, cases_lt}
 use Rattle.std.proofs.lemmas.Bool.Decides.{nat_tests}
@@ -26,7 +27,8 @@ pub record IsFound (routes : List Route) (caller : ℕ) (prefix : List ℕ) (rou
   pub open_to : is_open_to caller route ≡ true
   pub nearest : All (λ other. other.prefix ≡ prefix → is_open_to caller other ≡ true → nearness other ≤ nearness route) routes
 
-fit_parts : (caller : ℕ) (text : List ℕ) (route : Route) → fits caller text route ≡ true → (begins text route ≡ true) × (is_open_to caller route ≡ true)
+fit_parts : (caller : ℕ) (text : List ℕ) (route : Route) → fits caller text route ≡ true → (begins text route ≡ true) ×
+    (is_open_to caller route ≡ true)
 unfolding fits
 fit_parts caller text route h = go (begins text route) (is_open_to caller route) h
   where
@@ -34,7 +36,8 @@ fit_parts caller text route h = go (begins text route) (is_open_to caller route)
     go true b h = (refl, h)
     go false b h = absurd (true≢false (sym h))
 
-fit_from : (caller : ℕ) (text : List ℕ) (route : Route) → begins text route ≡ true → is_open_to caller route ≡ true → fits caller text route ≡ true
+fit_from : (caller : ℕ) (text : List ℕ) (route : Route) → begins text route ≡ true → is_open_to caller route ≡ true
+    → fits caller text route ≡ true
 unfolding fits
 fit_from caller text route h open_to = go (begins text route) (is_open_to caller route) h open_to
   where
@@ -52,9 +55,11 @@ begins_from text route n le same =
     (bytes_eq-Decides route.prefix (take (length route.prefix) text)).1 (same ∙ ap (λ k. take k text) (sym long))
 
 begins_fits : (text : List ℕ) (route : Route) → begins text route ≡ true → length route.prefix ≤ length text
-begins_fits text route h = let is : length route.prefix ≡ min (length route.prefix) (length text) = ap length (begins_is text route h) ∙ length-take (length route.prefix) text in omega (arith, is)
+begins_fits text route h = let is : length route.prefix ≡ min (length route.prefix) (length text) =
+    ap length (begins_is text route h) ∙ length-take (length route.prefix) text in omega (arith, is)
 
-pub fit_within_first : (routes : List Route) (caller : ℕ) (text : List ℕ) (longest n : ℕ) → All (λ route. length route.prefix ≤ longest) routes → n ≡ min longest (length text) → FitWithin routes caller text n
+pub fit_within_first : (routes : List Route) (caller : ℕ) (text : List ℕ) (longest n : ℕ)
+    → All (λ route. length route.prefix ≤ longest) routes → n ≡ min longest (length text) → FitWithin routes caller text n
 fit_within_first routes caller text longest n most is = λ k d lt fit.
     let le = begins_fits text (get_or routes k d) (fit_parts caller text (get_or routes k d) fit).0 in
     grind (arith, most k d lt, le, is)
@@ -69,7 +74,8 @@ nearness_most route = go (is_some route.source)
     go true = omega arith
     go false = omega arith
 
-pub nearest_found : (routes : List Route) (caller : ℕ) (text : List ℕ) (n : ℕ) (route : Route) → n ≤ length text → FitWithin routes caller text n → IsFound routes caller (take n text) route → IsNearest routes caller text route
+pub nearest_found : (routes : List Route) (caller : ℕ) (text : List ℕ) (n : ℕ) (route : Route) → n ≤ length text
+    → FitWithin routes caller text n → IsFound routes caller (take n text) route → IsNearest routes caller text route
 nearest_found routes caller text n route le within found =
     let long : length route.prefix ≡ n = ap length found.prefix_is ∙ length-take-le n text le in
     record {
@@ -87,7 +93,8 @@ nearest_found routes caller text n route le within found =
     }
 
 -- no route of this prefix may be taken
-pub not_so_long : (routes : List Route) (caller : ℕ) (text : List ℕ) (n : ℕ) → FitWithin routes caller text n → All (λ route. route.prefix ≡ take n text → is_open_to caller route ≡ false) routes
+pub not_so_long : (routes : List Route) (caller : ℕ) (text : List ℕ) (n : ℕ) → FitWithin routes caller text n
+    → All (λ route. route.prefix ≡ take n text → is_open_to caller route ≡ false) routes
     → All (λ route. fits caller text route ≡ true → length route.prefix < n) routes
 not_so_long routes caller text n within none = λ k d lt fit.
     let other = get_or routes k d in
@@ -99,10 +106,12 @@ not_so_long routes caller text n within none = λ k d lt fit.
     absurd (true≢false (sym parts.1 ∙ none k d lt (begins_is text other parts.0 ∙ ap (λ m. take m text) same))))
     (cases_lt (length other.prefix) n)
 
-pub none_fits : (routes : List Route) (caller : ℕ) (text : List ℕ) → All (λ route. fits caller text route ≡ true → length route.prefix < 0) routes → All (λ route. fits caller text route ≡ false) routes
+pub none_fits : (routes : List Route) (caller : ℕ) (text : List ℕ) → All (λ route. fits caller text route ≡ true
+    → length route.prefix < 0) routes → All (λ route. fits caller text route ≡ false) routes
 none_fits routes caller text none = λ k d lt. go (get_or routes k d) (fits caller text (get_or routes k d)) refl (none k d lt)
   where
-    go : (route : Route) (b : Bool) → fits caller text route ≡ b → (fits caller text route ≡ true → length route.prefix < 0) → fits caller text route ≡ false
+    go : (route : Route) (b : Bool) → fits caller text route ≡ b → (fits caller text route ≡ true → length route.prefix < 0)
+        → fits caller text route ≡ false
     go route true is h = let no = h is in absurd (omega (arith, no))
     go route false is h = is
 
@@ -116,7 +125,8 @@ begun caller text route h = go (begins text route) (is_open_to caller route) h
     go true b h = refl
     go false b h = absurd (true≢false (sym h))
 
-fit : (caller : ℕ) (text : List ℕ) (route : Route) → route.source ≡ None → begins text route ≡ true → fits caller text route ≡ true
+fit : (caller : ℕ) (text : List ℕ) (route : Route) → route.source ≡ None → begins text route ≡ true
+    → fits caller text route ≡ true
 unfolding fits
 fit caller text route none h =
     let open_to : is_open_to caller route ≡ true = ap (is_source caller) none in
@@ -130,7 +140,8 @@ fit caller text route none h =
 by_length : (route : Route) → route.source ≡ None → nearness route ≡ 2 * length route.prefix + 0
 by_length route none = ap (λ source. 2 * length route.prefix + cond (is_some source) 1 0) none
 
-pub nearest_is_longest : (routes : List Route) (caller : ℕ) (text : List ℕ) (route : Route) → All (λ other. other.source ≡ None) routes → IsNearest routes caller text route → IsLongest routes text route
+pub nearest_is_longest : (routes : List Route) (caller : ℕ) (text : List ℕ) (route : Route)
+    → All (λ other. other.source ≡ None) routes → IsNearest routes caller text route → IsLongest routes text route
 nearest_is_longest routes caller text route none is =
     let here : route.source ≡ None = subst (λ r. r.source ≡ None) is.listed.2 (none is.listed.0 route is.listed.1) in
     record {
@@ -142,10 +153,13 @@ nearest_is_longest routes caller text route none is =
           omega (arith, le, by_length route here, by_length other (none k d lt));
     }
 
-pub none_begins : (routes : List Route) (caller : ℕ) (text : List ℕ) → All (λ other. other.source ≡ None) routes → All (λ other. fits caller text other ≡ false) routes → All (λ other. begins text other ≡ false) routes
-none_begins routes caller text none unfit = λ k d lt. go (get_or routes k d) (begins text (get_or routes k d)) refl (none k d lt) (unfit k d lt)
+pub none_begins : (routes : List Route) (caller : ℕ) (text : List ℕ) → All (λ other. other.source ≡ None) routes
+    → All (λ other. fits caller text other ≡ false) routes → All (λ other. begins text other ≡ false) routes
+none_begins routes caller text none unfit = λ k d lt. go (get_or routes k d) (begins text (get_or routes k d)) refl (none k d lt)
+    (unfit k d lt)
   where
-    go : (route : Route) (b : Bool) → begins text route ≡ b → route.source ≡ None → fits caller text route ≡ false → begins text route ≡ false
+    go : (route : Route) (b : Bool) → begins text route ≡ b → route.source ≡ None → fits caller text route ≡ false
+        → begins text route ≡ false
     go route true is none unfit = absurd (true≢false (sym (fit caller text route none is) ∙ unfit))
     go route false is none unfit = is
 

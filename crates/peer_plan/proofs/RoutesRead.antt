@@ -1,5 +1,6 @@
 -- Routes that are read one by one, and compared with one another afterwards.
-use Rattle.std.proofs.Common.{◌≡◌, ℕ, ◌+◌, ◌≤◌, ◌<◌, Bool, true, false, cond, ◌||◌, List, [], ◌∷◌, ◌++◌, length, get_or, drop, Some, None, Result, Ok, Err, refl, sym, ap, ◌∙◌}
+use Rattle.std.proofs.Common.{◌≡◌, ℕ, ◌+◌, ◌≤◌, ◌<◌, Bool, true, false, cond, ◌||◌, List, [], ◌∷◌, ◌++◌, length, get_or, drop}
+use Rattle.std.proofs.Common.{Some, None, Result, Ok, Err, refl, sym, ap, ◌∙◌}
 use Rattle.std.specs.List.{list_any}
 use Rattle.std.proofs.lemmas.List.{drop_all}
 use Rattle.std.proofs.lemmas.List.Folds.{list_any-append}
@@ -19,12 +20,14 @@ use Rattle.peer_plan.specs.ReadRoutes.{routes_apart}
 
 -- ---- a route alone
 
-bind_then : {A B C : Type 0} (m : Result A PlanError) (f : A → Result B PlanError) (g : A → Result C PlanError) (h : B → Result C PlanError) → ((x : A) → g x ≡ (f x >>= h)) → (m >>= g) ≡ ((m >>= f) >>= h)
+bind_then : {A B C : Type 0} (m : Result A PlanError) (f : A → Result B PlanError) (g : A → Result C PlanError) (h : B
+    → Result C PlanError) → ((x : A) → g x ≡ (f x >>= h)) → (m >>= g) ≡ ((m >>= f) >>= h)
 bind_then (Ok x) f g h same = same x
 bind_then (Err e) f g h same = refl
 
 -- it is read as behind others, and compared with these at last
-route_behind : (format : ℕ) (peers : List Peer) (before : List Route) (ms : Members) → route_in format peers before ms ≡ (route_in format peers [] ms >>= λ route. new_route before route.prefix route.source route.peer)
+route_behind : (format : ℕ) (peers : List Peer) (before : List Route) (ms : Members) → route_in format peers before ms
+    ≡ (route_in format peers [] ms >>= λ route. new_route before route.prefix route.source route.peer)
 unfolding route_in
 route_behind format peers before ms =
     let last : Route → Result Route PlanError = λ route. new_route before route.prefix route.source route.peer in
@@ -35,13 +38,15 @@ route_behind format peers before ms =
 
 -- ---- one more route
 
-one_more : (here next same behind : Bool) → cond (here || (next || false)) true (same || behind) ≡ (cond here true same || (next || behind))
+one_more : (here next same behind : Bool) → cond (here || (next || false)) true (same || behind)
+    ≡ (cond here true same || (next || behind))
 one_more true next same behind = refl
 one_more false true true behind = refl
 one_more false true false behind = refl
 one_more false false same behind = refl
 
-same_push : (routes : List Route) (route : Route) → has_same_way (routes ++ route ∷ []) ≡ (has_same_way routes || has_way route.prefix route.source routes)
+same_push : (routes : List Route) (route : Route) → has_same_way (routes ++ route ∷ [])
+    ≡ (has_same_way routes || has_way route.prefix route.source routes)
 same_push [] route = refl
 same_push (first ∷ routes) route =
     let test : Route → Bool = λ other. is_way other.prefix other.source first in
@@ -53,26 +58,34 @@ same_push (first ∷ routes) route =
 
 -- the outcome of a list of tables, by the routes that were read of it and the tables that are left
 abbrev pub so_far : ℕ → List Peer → List Route → Items → Result (List Route) PlanError
-so_far format peers routes rest = cond (has_same_way routes) (Err error.SameRoute) (each key.Route (route_in format peers) routes rest)
+so_far format peers routes rest = cond (has_same_way routes) (Err error.SameRoute) (each key.Route (route_in format peers) routes
+    rest)
 
-step : (same behind : Bool) (next : Route) (rest : Route → Result (List Route) PlanError) → cond same (Err error.SameRoute) (cond behind (Err error.SameRoute) (Ok next) >>= rest) ≡ cond (same || behind) (Err error.SameRoute) (rest next)
+step : (same behind : Bool) (next : Route) (rest : Route → Result (List Route) PlanError)
+    → cond same (Err error.SameRoute) (cond behind (Err error.SameRoute) (Ok next) >>= rest) ≡ cond (same || behind)
+    (Err error.SameRoute) (rest next)
 step true behind next rest = refl
 step false true next rest = refl
 step false false next rest = refl
 
-pub goes_on : (format : ℕ) (peers : List Peer) (routes : List Route) (vs : List Value) (i : ℕ) (d : Value) (ms : Members) (next : Route) (total : Result (List Route) PlanError)
+pub goes_on : (format : ℕ) (peers : List Peer) (routes : List Route) (vs : List Value) (i : ℕ) (d : Value) (ms : Members)
+    (next : Route) (total : Result (List Route) PlanError)
     → i < length vs → view (get_or vs i d) ≡ table ms → route_in format peers [] ms ≡ Ok next
-    → total ≡ so_far format peers routes (items_view (drop i vs)) → total ≡ so_far format peers (routes ++ next ∷ []) (items_view (drop (i + 1) vs))
+    → total ≡ so_far format peers routes (items_view (drop i vs)) → total ≡ so_far format peers (routes ++ next ∷ [])
+    (items_view (drop (i + 1) vs))
 unfolding each
 goes_on format peers routes vs i d ms next total lt is_table read is =
-    let rest : Route → Result (List Route) PlanError = λ route. each key.Route (route_in format peers) (routes ++ route ∷ []) (items_view (drop (i + 1) vs)) in
-    let one : each key.Route (route_in format peers) routes (items_view (drop i vs)) ≡ (new_route routes next.prefix next.source next.peer >>= rest) =
+    let rest : Route → Result (List Route) PlanError = λ route. each key.Route (route_in format peers) (routes ++ route ∷ [])
+    (items_view (drop (i + 1) vs)) in
+    let one : each key.Route (route_in format peers) routes (items_view (drop i vs))
+    ≡ (new_route routes next.prefix next.source next.peer >>= rest) =
     rw (items_view-drop vs i d lt, is_table, route_behind format peers routes ms, read) refl in
     is ∙ ap (λ r. cond (has_same_way routes) (Err error.SameRoute) r) one
     ∙ step (has_same_way routes) (has_way next.prefix next.source routes) next rest
     ∙ ap (λ b. cond b (Err error.SameRoute) (rest next)) (sym (same_push routes next))
 
-pub ends_in : (format : ℕ) (peers : List Peer) (routes : List Route) (vs : List Value) (i : ℕ) (d : Value) (ms : Members) (fault : PlanError) (total : Result (List Route) PlanError)
+pub ends_in : (format : ℕ) (peers : List Peer) (routes : List Route) (vs : List Value) (i : ℕ) (d : Value) (ms : Members)
+    (fault : PlanError) (total : Result (List Route) PlanError)
     → i < length vs → view (get_or vs i d) ≡ table ms → route_in format peers [] ms ≡ Err fault
     → total ≡ so_far format peers routes (items_view (drop i vs)) → total ≡ routes_apart routes (Some fault)
 unfolding each
@@ -81,12 +94,14 @@ ends_in format peers routes vs i d ms fault total lt is_table read is =
     rw (items_view-drop vs i d lt, is_table, route_behind format peers routes ms, read) refl in
     is ∙ ap (λ r. cond (has_same_way routes) (Err error.SameRoute) r) one
 
-wrong_kind : (format : ℕ) (peers : List Peer) (routes : List Route) (d : Data) (ds : Items) → as_table d ≡ None → each key.Route (route_in format peers) routes (item d ds) ≡ Err (error.Range key.Route)
+wrong_kind : (format : ℕ) (peers : List Peer) (routes : List Route) (d : Data) (ds : Items) → as_table d ≡ None
+    → each key.Route (route_in format peers) routes (item d ds) ≡ Err (error.Range key.Route)
 unfolding each
 wrong_kind format peers routes (table ms) ds h = cc
 wrong_kind format peers routes _ ds h = refl
 
-pub ends_at_no_table : (format : ℕ) (peers : List Peer) (routes : List Route) (vs : List Value) (i : ℕ) (d : Value) (total : Result (List Route) PlanError)
+pub ends_at_no_table : (format : ℕ) (peers : List Peer) (routes : List Route) (vs : List Value) (i : ℕ) (d : Value)
+    (total : Result (List Route) PlanError)
     → i < length vs → as_table (view (get_or vs i d)) ≡ None
     → total ≡ so_far format peers routes (items_view (drop i vs)) → total ≡ routes_apart routes (Some (error.Range key.Route))
 ends_at_no_table format peers routes vs i d total lt h is =
@@ -94,7 +109,8 @@ ends_at_no_table format peers routes vs i d total lt h is =
     rw (items_view-drop vs i d lt) (wrong_kind format peers routes _ _ h) in
     is ∙ ap (λ r. cond (has_same_way routes) (Err error.SameRoute) r) one
 
-pub ends : (format : ℕ) (peers : List Peer) (routes : List Route) (vs : List Value) (i : ℕ) (total : Result (List Route) PlanError)
+pub ends : (format : ℕ) (peers : List Peer) (routes : List Route) (vs : List Value) (i : ℕ)
+    (total : Result (List Route) PlanError)
     → length vs ≤ i → total ≡ so_far format peers routes (items_view (drop i vs)) → total ≡ routes_apart routes None
 unfolding each
 ends format peers routes vs i total le is =

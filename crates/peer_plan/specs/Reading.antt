@@ -1,6 +1,7 @@
 -- The reading of a plan from a document: the keys in their order, with the first fault.
 use Rattle.std.specs.Prelude.{ℕ, ◌-◌, List, [], ◌∷◌, length, Option, Some, None, Result, Ok, Err, Bool, true, false, is_some}
-use Rattle.std.specs.Prelude.{pos, nat_le, nat_eq, ◌==◌, ◌&&◌, ◌||◌, if◌then◌else◌, ok_or, option_map, option_and_then, position, replicate}
+use Rattle.std.specs.Prelude.{pos, nat_le, nat_eq, ◌==◌, ◌&&◌, ◌||◌, if◌then◌else◌, ok_or, option_map, option_and_then, position}
+use Rattle.std.specs.Prelude.{replicate}
 use Rattle.std.specs.List.{list_all, list_any}
 use Rattle.std.specs.Option.{option_eq}
 use Rattle.std.specs.Str.{is_utf8, bytes_eq}
@@ -42,7 +43,8 @@ default_record_limit format = if format == 4 then 65536 else 4096
 -- `record_octets`, only in plan version 4: older versions don't limit the data of a record
 abbrev pub record_octets_in : ℕ → Members → Result (Option ℕ) PlanError
 record_octets_in format ms =
-    if format == 4 then (value ms key.RecordOctets (Ok 1048576) (number_of 65536 268435456) >>= λ most. Ok (Some most)) else Ok None
+    if format == 4 then (value ms key.RecordOctets (Ok 1048576) (number_of 65536 268435456) >>= λ most. Ok (Some most))
+    else Ok None
 
 -- `vnak_ms`, only in plan version 4
 abbrev pub vnak_ms_in : ℕ → Members → Result ℕ PlanError
@@ -50,7 +52,8 @@ vnak_ms_in format ms = if format == 4 then value ms key.VnakMs (Ok 0) (number_of
 
 -- `trunk_ms`, only in plan version 4: older versions set no time for which media waits for a trunk frame to fill
 abbrev pub trunk_ms_in : ℕ → Members → Result (Option ℕ) PlanError
-trunk_ms_in format ms = if format == 4 then (value ms key.TrunkMs (Ok 20) (number_of 0 60) >>= λ wait. Ok (Some wait)) else Ok None
+trunk_ms_in format ms = if format == 4 then (value ms key.TrunkMs (Ok 20) (number_of 0 60) >>= λ wait. Ok (Some wait))
+    else Ok None
 
 -- `challenge_ms`, only in plan version 4: older versions don't limit the wait for the answer to a challenge
 abbrev pub challenge_ms_in : ℕ → Members → Result (Option ℕ) PlanError

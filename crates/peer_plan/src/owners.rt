@@ -13,8 +13,7 @@ fn has_number(range: NumberRange, number: u16) -> bool
 }
 
 impl Plan {
-    /// The place of the peer that has a local call number; none if no peer has it. Takes the time of a look at each pair of
-    /// peers.
+    /// Returns the place of the peer that has a local call number, or `None` if no peer has it. It compares each two peers.
     pub fn owner_of(&self, number: u16) -> Option<u16>
         ensures found { IfSome result (λ peer. IsInRange (range_of (counts_of self.now.peers) peer) number) }
         ensures place { IfSome result (λ peer. peer < length self.now.peers) }

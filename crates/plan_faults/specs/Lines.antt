@@ -3,7 +3,7 @@ use Rattle.std.specs.Prelude.{◌≡◌, ℕ, ◌+◌, ◌==◌, ◌&&◌, ◌||
 use Rattle.std.specs.Prelude.{List, count_by, length, min, take}
 use Rattle.std.specs.List.{list_all}
 use Rattle.plan_faults.specs.declared.report.Counts.{Counts}
-use Rattle.text_buffer.specs.declared.text_buffer.TextBuffer.{TextBuffer}
+use Rattle.plain_text.specs.declared.text_buffer.TextBuffer.{TextBuffer}
 
 -- the number of lines that end in a text
 abbrev pub line_ends : List ℕ → ℕ

@@ -13,8 +13,8 @@ use crate::walk::Walk;
 use crate::ways::ways_of;
 use crate::words::{Source, write_fault};
 use peer_plan::Section;
+use plain_text::TextBuffer;
 use std::alloc::Global;
-use text_buffer::TextBuffer;
 use toml::Table;
 
 // Returns the faults of a text that TOML accepts.

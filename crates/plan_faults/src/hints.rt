@@ -11,8 +11,8 @@ use crate::tables::items_of;
 use crate::warnings::{MOST_KEPT, has_secret, warnings_of};
 use crate::words::{Source, write_unknown};
 use peer_plan::{Key, Plan, Section};
+use plain_text::TextBuffer;
 use std::alloc::Global;
-use text_buffer::TextBuffer;
 use toml::Table;
 
 /// Settings of a plan that are valid, and probably not intended.

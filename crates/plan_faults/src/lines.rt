@@ -5,8 +5,8 @@ ghost use Rattle.plan_faults.specs.Lines.{line_ends, line_at};
 use crate::names::is_quoted;
 use crate::tables::{list_key, table_at, text_at};
 use peer_plan::{Key, Section};
+use plain_text::TextBuffer;
 use std::io::Write;
-use text_buffer::TextBuffer;
 use toml::Table;
 
 // The most octets of a text that are shown.

@@ -2,7 +2,7 @@
 ghost use Rattle.std.specs.Prelude.{◌≡◌, false, true};
 ghost use Rattle.plan_faults.specs.Lines.{Adds, is_shown};
 
-use text_buffer::TextBuffer;
+use plain_text::TextBuffer;
 
 /// The number of faults or warnings in a report, a line each, and the number of those that were only counted.
 #[derive(Clone, Copy, PartialEq, Eq)]

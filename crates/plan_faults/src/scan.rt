@@ -122,7 +122,8 @@ fn is_free(scan: Scan) -> bool {
     matches!(scan.mode, Mode::Bare) && scan.depth == 0 && scan.skip == 0
 }
 
-/// Returns the place of the first octet from here on at which the scan stops, outside texts, comments and brackets; the end of the
+/// Returns the place of the first octet from here on at which the scan stops, outside texts, comments and brackets; the end of
+/// the
 /// text if there is none.
 pub(crate) fn stop_at(text: &[u8], from: usize, stop: Stop) -> usize
     requires { from ≤ length text.now }

@@ -8,8 +8,8 @@ use crate::report::{Counts, push_line};
 use crate::rows::{Form, row_anywhere};
 use crate::scan::{Stop, stop_at, trimmed};
 use crate::words::write_expected;
+use plain_text::TextBuffer;
 use std::alloc::Global;
-use text_buffer::TextBuffer;
 use toml_parser::ErrorKind;
 use toml_parser::bytes::byte_at;
 

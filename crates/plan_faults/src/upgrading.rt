@@ -6,8 +6,8 @@ use crate::rows::is_unknown;
 use crate::tables::version_of;
 use crate::walk::{Entry, EntryKind, Walk};
 use peer_plan::{Key, Plan, PlanError, Section};
+use plain_text::TextBuffer;
 use std::alloc::Global;
-use text_buffer::TextBuffer;
 use toml::Table;
 
 /// The outcome of an upgrade.

@@ -30,7 +30,7 @@ pub(crate) struct Entry<'a> {
     pub(crate) end: usize,
     /// The name of the key, as `names` has names.
     pub(crate) name: &'a [u8],
-    /// The value as it is written; nothing behind a key with dots.
+    /// The value as it is written; empty for a key with dots.
     pub(crate) value: &'a [u8],
 }
 

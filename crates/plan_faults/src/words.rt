@@ -5,8 +5,8 @@ use crate::meant::{meant_key, meant_peer};
 use crate::rows::{Form, row_anywhere, row_named};
 use crate::tables::{list_key, table_at, text_at, version_of};
 use peer_plan::{Key, Section};
+use plain_text::TextBuffer;
 use std::alloc::Global;
-use text_buffer::TextBuffer;
 use toml::Table;
 
 /// The plan that a report is of.

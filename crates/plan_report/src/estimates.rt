@@ -6,7 +6,7 @@ ghost use Rattle.plan_report.specs.Estimates as estimate;
 use crate::values::limits_of;
 use call_signals::PeerRules;
 use peer_plan::{Key, Plan};
-use text_buffer::TextBuffer;
+use plain_text::TextBuffer;
 
 // Returns the time for which a frame is retransmitted before its call ends, in milliseconds.
 fn silence_ms(retry_ms: u64, max_retries: u32) -> u64

@@ -4,9 +4,9 @@ use crate::unknown_keys::warn_of_unknown_keys;
 use crate::values::write_values;
 use crate::warnings::write_warnings;
 use peer_plan::Plan;
+use plain_text::TextBuffer;
 use std::alloc::{AllocError, Global};
 use std::io::Write;
-use text_buffer::TextBuffer;
 
 // Returns the report of a plan that was read from this text.
 fn report_of(alloc: Global, plan: &Plan, text: &[u8]) -> Result<Vec<u8>, AllocError> {

@@ -1,7 +1,7 @@
 //! The keys of a plan that are skipped because no known key has that name.
 use crate::values::{format_of, tables_of};
 use peer_plan::{Key, Section, is_known};
-use text_buffer::TextBuffer;
+use plain_text::TextBuffer;
 use toml::Table;
 
 // Warns of unknown keys of the plan itself.

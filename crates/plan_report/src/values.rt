@@ -4,7 +4,7 @@ ghost use Rattle.call_signals.specs.PeerRules.{IsPeerRules};
 
 use call_signals::{Format, PeerRules};
 use peer_plan::{Endpoint, Key, Plan, format_name};
-use text_buffer::TextBuffer;
+use plain_text::TextBuffer;
 use toml::{Table, Value};
 
 // Returns the note behind a value that is a default.

@@ -5,7 +5,7 @@ ghost use Rattle.plan_report.specs.Warnings.{lacks};
 
 use call_signals::{Format, Formats};
 use peer_plan::{Plan, format_name};
-use text_buffer::TextBuffer;
+use plain_text::TextBuffer;
 
 // Returns whether calls of one peer in a format are rejected by another.
 fn lacks(caller: Formats, target: Formats, format: Format) -> bool

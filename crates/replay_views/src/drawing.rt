@@ -4,12 +4,12 @@ ghost use Rattle.std.specs.Prelude.{◌≡◌, ◌<◌, length};
 use crate::outcomes::{kept, write_view};
 use call_ladder::{DatagramEvent, Direction, Ladder};
 use exchange_commands::{
-    PeerOfPlan, Received, ReplayError, ReplayFiles, Stop, Viewer, replay_with, tell_outcome,
+    PeerOfPlan, Received, ReplayError, ReplayFiles, ScriptLine, Stop, Viewer, replay_with,
+    tell_outcome,
 };
 use exchange_report::{refusal_name, stage_name};
 use leg_machine::Stage;
 use peer_plan::Plan;
-use script_lines::Line;
 use std::alloc::Global;
 use std::io;
 use std::io::Write;
@@ -43,17 +43,17 @@ impl LadderViewer {
     }
 
     // Adds an order of the script.
-    fn order(&mut self, moment: u64, line: &Line<'_>) -> io::Result<()> {
+    fn order(&mut self, moment: u64, line: &ScriptLine<'_>) -> io::Result<()> {
         let mut text = Vec::new(self.alloc);
         match line {
-            Line::Call(peer, number) => {
+            ScriptLine::Call(peer, number) => {
                 text.write_all(b"call ")?;
                 text.write_all(peer)?;
                 text.write_all(b" ")?;
                 text.write_all(number)?;
                 self.ladder.order(moment, &text, None)
             }
-            Line::HangUp(number) => {
+            ScriptLine::HangUp(number) => {
                 write!(text, "hangup {number}")?;
                 self.ladder
                     .order(moment, &text, u16::try_from(*number).ok())
@@ -68,7 +68,7 @@ impl Viewer for LadderViewer {
         kept(self.peers(plan))
     }
 
-    fn asked(&mut self, moment: u64, line: &Line<'_>) -> Result<(), Stop> {
+    fn asked(&mut self, moment: u64, line: &ScriptLine<'_>) -> Result<(), Stop> {
         kept(self.order(moment, line))
     }
 

@@ -1,12 +1,14 @@
 //! The frames that wait, the oldest first.
 
 ghost use Rattle.std.specs.Prelude.{◌≡◌, ℕ, ◌≤◌, ◌<◌, ◌↔◌, ◌++◌, ◌∷◌, ◌==◌, [], length, drop, map, position, slice_get};
-ghost use Rattle.std.specs.Prelude.{option_copied, IfOk, IfSome, OnOk, IfErr, IsOk};
+ghost use Rattle.std.specs.Prelude.{option_copied, IfOk, IfSome, OnOk, OnErr, IfErr, IsOk};
 ghost use Rattle.resend_queue.specs.Timing.{is_due, marked, touched, changed_at};
+ghost use Rattle.memory_requests.specs.Refused.{WasRefused};
 
 use crate::held_frame::Held;
 use circular_buffer::HeapCircularBuffer;
 use iax_frames::Frame;
+use memory_requests::ring_with_capacity;
 use std::alloc::{AllocError, Global};
 use std::marker::Model;
 
@@ -36,9 +38,10 @@ impl<F: Drop> Resend<F> {
     pub fn new(alloc: Global, width: u8) -> Result<Self, AllocError>
         requires some { 1 ≤ width }
         requires most { width ≤ 127 }
-        ensures { IfOk result (λ q. q ≡ record { held = []; width = width }) }
+        ensures empty { IfOk result (λ q. q ≡ record { held = []; width = width }) }
+        ensures no_memory { OnErr result WasRefused }
     {
-        let ring = HeapCircularBuffer::with_capacity(alloc, width as usize)?;
+        let ring = ring_with_capacity(alloc, width as usize)?;
         Ok(Resend { ring })
     }
 

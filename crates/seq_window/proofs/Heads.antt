@@ -1,5 +1,6 @@
 -- The entries of a record's heads.
-use Rattle.std.proofs.Common.{get_or, ◌≡◌, ℕ, ◌+◌, ◌-◌, ◌≤◌, suc, List, [], ◌∷◌, ◌++◌, length, take, drop, refl, ap, sym, ◌∙◌, arith, length-append, length-drop, length-take}
+use Rattle.std.proofs.Common.{get_or, ◌≡◌, ℕ, ◌+◌, ◌-◌, ◌≤◌, suc, List, [], ◌∷◌, ◌++◌, length, take, drop, refl, ap, sym, ◌∙◌}
+use Rattle.std.proofs.Common.{arith, length-append, length-drop, length-take}
 use Rattle.std.proofs.lemmas.List.{take-append-le, drop-append-le, map-append}
 use Rattle.std.proofs.lemmas.List.Elements.{All-push}
 use Rattle.std.proofs.lemmas.List.Sums.{sum_by-cons, sum_by_push}
@@ -17,21 +18,66 @@ use Rattle.seq_window.specs.RecordFields.{frame_at, entry_at, entries_in, EndsBe
 module _ (octets : List ℕ) where
   pub sent_count-heads : (heads : List Head) → sum_by (counted_by counts.Sent) heads ≡ sent_count (entries_in octets heads)
   sent_count-heads [] = refl
-  sent_count-heads (head.Sent h ∷ heads) = omega (arith, sent_count-heads heads, sum_by-cons (counted_by counts.Sent) (head.Sent h) heads)
-  sent_count-heads (head.Acked count ∷ heads) = omega (arith, sent_count-heads heads, sum_by-cons (counted_by counts.Sent) (head.Acked count) heads)
-  sent_count-heads (head.Taken h ∷ heads) = omega (arith, sent_count-heads heads, sum_by-cons (counted_by counts.Sent) (head.Taken h) heads)
+  sent_count-heads (head.Sent h ∷ heads) = omega (
+    arith,
+    sent_count-heads heads,
+    sum_by-cons (counted_by counts.Sent)
+        (head.Sent h) heads,
+  )
+  sent_count-heads (head.Acked count ∷ heads) = omega (
+    arith,
+    sent_count-heads heads,
+    sum_by-cons (counted_by counts.Sent)
+        (head.Acked count) heads,
+  )
+  sent_count-heads (head.Taken h ∷ heads) = omega (
+    arith,
+    sent_count-heads heads,
+    sum_by-cons (counted_by counts.Sent)
+        (head.Taken h) heads,
+  )
 
   pub acked_count-heads : (heads : List Head) → sum_by (counted_by counts.Acked) heads ≡ acked_count (entries_in octets heads)
   acked_count-heads [] = refl
-  acked_count-heads (head.Sent h ∷ heads) = omega (arith, acked_count-heads heads, sum_by-cons (counted_by counts.Acked) (head.Sent h) heads)
-  acked_count-heads (head.Acked count ∷ heads) = omega (arith, acked_count-heads heads, sum_by-cons (counted_by counts.Acked) (head.Acked count) heads)
-  acked_count-heads (head.Taken h ∷ heads) = omega (arith, acked_count-heads heads, sum_by-cons (counted_by counts.Acked) (head.Taken h) heads)
+  acked_count-heads (head.Sent h ∷ heads) = omega (
+    arith,
+    acked_count-heads heads,
+    sum_by-cons (counted_by counts.Acked)
+        (head.Sent h) heads,
+  )
+  acked_count-heads (head.Acked count ∷ heads) = omega (
+    arith,
+    acked_count-heads heads,
+    sum_by-cons (counted_by counts.Acked)
+        (head.Acked count) heads,
+  )
+  acked_count-heads (head.Taken h ∷ heads) = omega (
+    arith,
+    acked_count-heads heads,
+    sum_by-cons (counted_by counts.Acked)
+        (head.Taken h) heads,
+  )
 
   pub taken_count-heads : (heads : List Head) → sum_by (counted_by counts.Taken) heads ≡ taken_count (entries_in octets heads)
   taken_count-heads [] = refl
-  taken_count-heads (head.Sent h ∷ heads) = omega (arith, taken_count-heads heads, sum_by-cons (counted_by counts.Taken) (head.Sent h) heads)
-  taken_count-heads (head.Acked count ∷ heads) = omega (arith, taken_count-heads heads, sum_by-cons (counted_by counts.Taken) (head.Acked count) heads)
-  taken_count-heads (head.Taken h ∷ heads) = omega (arith, taken_count-heads heads, sum_by-cons (counted_by counts.Taken) (head.Taken h) heads)
+  taken_count-heads (head.Sent h ∷ heads) = omega (
+    arith,
+    taken_count-heads heads,
+    sum_by-cons (counted_by counts.Taken)
+        (head.Sent h) heads,
+  )
+  taken_count-heads (head.Acked count ∷ heads) = omega (
+    arith,
+    taken_count-heads heads,
+    sum_by-cons (counted_by counts.Taken)
+        (head.Acked count) heads,
+  )
+  taken_count-heads (head.Taken h ∷ heads) = omega (
+    arith,
+    taken_count-heads heads,
+    sum_by-cons (counted_by counts.Taken)
+        (head.Taken h) heads,
+  )
 
 -- .. and so are their octets of data
 length-frame_at : (octets : List ℕ) (h : FrameHead) → h.start + h.len ≤ length octets → length (frame_at octets h).payload ≡ h.len
@@ -58,11 +104,14 @@ data_octets-heads octets (h ∷ heads) within =
     )
 
 -- a frame stays at its place when further frames follow
-frame_at-more : (octets more : List ℕ) (h : FrameHead) → h.start + h.len ≤ length octets → frame_at (octets ++ more) h ≡ frame_at octets h
+frame_at-more : (octets more : List ℕ) (h : FrameHead) → h.start + h.len ≤ length octets
+    → frame_at (octets ++ more) h ≡ frame_at octets h
 frame_at-more octets more h within =
-    let skipped : drop h.start (octets ++ more) ≡ drop h.start octets ++ more = drop-append-le h.start octets more (omega arith) in
+    let skipped : drop h.start (octets ++ more) ≡ drop h.start octets ++ more = drop-append-le h.start octets more
+    (omega arith) in
     let kept : slice_range (octets ++ more) h.start (h.start + h.len) ≡ slice_range octets h.start (h.start + h.len)
-    = ap (take (h.start + h.len - h.start)) skipped ∙ take-append-le (h.start + h.len - h.start) (drop h.start octets) more (omega (arith, length-drop h.start octets)) in
+    = ap (take (h.start + h.len - h.start)) skipped ∙ take-append-le (h.start + h.len - h.start) (drop h.start octets) more
+    (omega (arith, length-drop h.start octets)) in
     rw kept refl
 
 entry_at-more : (octets more : List ℕ) (h : Head) → EndsBelow (length octets) h → entry_at (octets ++ more) h ≡ entry_at octets h
@@ -70,7 +119,8 @@ entry_at-more octets more (head.Sent h) within = ap (λ f. Sent f) (frame_at-mor
 entry_at-more octets more (head.Acked count) within = refl
 entry_at-more octets more (head.Taken h) within = ap (λ f. Taken f) (frame_at-more octets more h within.0)
 
-entries_in-more : (octets more : List ℕ) (heads : List Head) → All (EndsBelow (length octets)) heads → entries_in (octets ++ more) heads ≡ entries_in octets heads
+entries_in-more : (octets more : List ℕ) (heads : List Head) → All (EndsBelow (length octets)) heads
+    → entries_in (octets ++ more) heads ≡ entries_in octets heads
 entries_in-more octets more [] within = refl
 entries_in-more octets more (h ∷ heads) within =
     let first : EndsBelow (length octets) h = within 0 h (omega arith) in
@@ -78,11 +128,13 @@ entries_in-more octets more (h ∷ heads) within =
     ap (λ e. e ∷ entries_in (octets ++ more) heads) (entry_at-more octets more h first)
     ∙ ap (λ es. entry_at octets h ∷ es) (entries_in-more octets more heads rest)
 
-same_state : (es fs : List Entry) (m n : ℕ) → es ≡ fs → m ≡ n → let a : RecordState = record { entries = es; spare = m } in let b : RecordState = record { entries = fs; spare = n } in a ≡ b
+same_state : (es fs : List Entry) (m n : ℕ) → es ≡ fs → m ≡ n → let a : RecordState = record { entries = es; spare = m } in
+    let b : RecordState = record { entries = fs; spare = n } in a ≡ b
 same_state es fs m n entries spare = rw (entries, spare) refl
 
 -- a record that has room, with one more head and its octets
-pub pushed : (old room : RecordState) (octets more grown_octets : List ℕ) (heads grown_heads : List Head) (h : Head) (entry : Entry) (spare : ℕ)
+pub pushed : (old room : RecordState) (octets more grown_octets : List ℕ) (heads grown_heads : List Head) (h : Head)
+    (entry : Entry) (spare : ℕ)
     → (let there : RecordState = record { entries = entries_in octets heads; spare = spare } in there ≡ room)
     → room.entries ≡ old.entries → room.spare ≡ max old.spare 1
     → All (EndsBelow (length octets)) heads → grown_octets ≡ octets ++ more → grown_heads ≡ heads ++ h ∷ []
@@ -92,14 +144,17 @@ pub pushed : (old room : RecordState) (octets more grown_octets : List ℕ) (hea
 pushed old room octets more grown_octets heads grown_heads h entry spare view same spared within octets_is heads_is at =
     let entries_are : entries_in octets heads ≡ old.entries = ap (λ (r : RecordState). r.entries) view ∙ same in
     let spare_is : spare ≡ room.spare = ap (λ (r : RecordState). r.spare) view in
-    let kept : entries_in grown_octets heads ≡ entries_in octets heads = rw octets_is (entries_in-more octets more heads within) in
+    let kept : entries_in grown_octets heads ≡ entries_in octets heads =
+    rw octets_is (entries_in-more octets more heads within) in
     same_state (entries_in grown_octets grown_heads) (old.entries ++ entry ∷ []) (spare - 1) (old.spare - 1)
-    (ap (entries_in grown_octets) heads_is ∙ map-append (entry_at grown_octets) heads (h ∷ []) ∙ ap (λ es. es ++ entry_at grown_octets h ∷ []) (kept ∙ entries_are)
+    (ap (entries_in grown_octets) heads_is ∙ map-append (entry_at grown_octets) heads (h ∷ [])
+    ∙ ap (λ es. es ++ entry_at grown_octets h ∷ []) (kept ∙ entries_are)
     ∙ ap (λ e. old.entries ++ e ∷ []) at)
     (omega arith)
 
 -- one more head has the octets that came with it
-pub pushed_len : (octets more grown_octets : List ℕ) (heads grown_heads : List Head) (h : Head) → length octets ≡ sum_by head_len heads
+pub pushed_len : (octets more grown_octets : List ℕ) (heads grown_heads : List Head) (h : Head)
+    → length octets ≡ sum_by head_len heads
     → grown_octets ≡ octets ++ more → grown_heads ≡ heads ++ h ∷ [] → head_len h ≡ length more
     → length grown_octets ≡ sum_by head_len grown_heads
 pushed_len octets more grown_octets heads grown_heads h whole octets_is heads_is len =
@@ -114,4 +169,5 @@ ends_later least most (head.Taken h) later ends = (omega (arith, ends.0), ends.1
 pub pushed_within : (least most : ℕ) (heads grown_heads : List Head) (h : Head) → least ≤ most → All (EndsBelow least) heads
     → EndsBelow most h → grown_heads ≡ heads ++ h ∷ [] → All (EndsBelow most) grown_heads
 pushed_within least most heads grown_heads h later within ends heads_is =
-    rw heads_is (All-push (EndsBelow most) heads h (λ k d at. ends_later least most (get_or heads k d) later (within k d at)) ends)
+    rw heads_is (All-push (EndsBelow most) heads h (λ k d at. ends_later least most (get_or heads k d) later (within k d at))
+    ends)

@@ -1,11 +1,13 @@
 -- The invariant of a network under fresh actions.
-use Rattle.std.proofs.Common.{◌≡◌, ℕ, zero, suc, ◌+◌, ◌<◌, ◌≤◌, List, [], ◌∷◌, ◌++◌, length, Some, slice_get, ap, sym, ◌∙◌, subst, arith, append-nil, append_assoc, length-append}
+use Rattle.std.proofs.Common.{◌≡◌, ℕ, zero, suc, ◌+◌, ◌<◌, ◌≤◌, List, [], ◌∷◌, ◌++◌, length, Some, slice_get, ap, sym, ◌∙◌, subst}
+use Rattle.std.proofs.Common.{arith, append-nil, append_assoc, length-append}
 use Rattle.iax_frames.specs.declared.stored_frame.Frame.{Frame}
 use Rattle.seq_window.specs.Entry.{Entry, Sent, Acked as EntryAcked, Taken as EntryTaken}
 use Rattle.seq_window.specs.History.{sent, taken, sent_count, taken_count, acked_count, held, IsWithinWindow, IsLegal}
 use Rattle.seq_window.specs.Network.{Datagram, Side, IsPrefixOf, TakesInOrder, AcksTaken}
 use Rattle.seq_window.proofs.Places.{slice_get-append, next_after}
-use Rattle.seq_window.proofs.Records.{sent-append, taken-append, acked_count-append, taken_count-append, legal_now, legal_sent, legal_acked, legal_taken, length-held}
+use Rattle.seq_window.proofs.Records.{sent-append, taken-append, acked_count-append, taken_count-append, legal_now, legal_sent}
+use Rattle.seq_window.proofs.Records.{legal_acked, legal_taken, length-held}
 
 -- a datagram that a side with this record may have sent
 pub record IsOwn (entries : List Entry) (datagram : Datagram) : Type 0 where
@@ -42,7 +44,8 @@ own_stays entries more datagram own = record {
 abbrev pub with_entry : Side → Entry → Side
 with_entry own entry = record own { history = own.history ++ entry ∷ [] }
 
-pub sound_with_entry : (own : Side) (entry : Entry) → IsSound own → IsLegal own.width own.limit (own.history ++ entry ∷ []) → IsSound (with_entry own entry)
+pub sound_with_entry : (own : Side) (entry : Entry) → IsSound own → IsLegal own.width own.limit (own.history ++ entry ∷ [])
+    → IsSound (with_entry own entry)
 sound_with_entry own entry sound legal = record {
   width = sound.width;
   legal = legal;
@@ -60,7 +63,8 @@ sound_with_datagram own sent sound is_own = record {
   datagrams = which_one;
 }
   where
-    which_one : (which : ℕ) (datagram : Datagram) → slice_get (sent ∷ own.datagrams) which ≡ Some datagram → IsOwn own.history datagram
+    which_one : (which : ℕ) (datagram : Datagram) → slice_get (sent ∷ own.datagrams) which ≡ Some datagram
+        → IsOwn own.history datagram
     which_one zero datagram at = let same : sent ≡ datagram = cc in subst (IsOwn own.history) same is_own
     which_one (suc which) datagram at = sound.datagrams which datagram at
 
@@ -68,7 +72,8 @@ sound_with_datagram own sent sound is_own = record {
 pub prefix_stays : (frames all more : List Frame) → IsPrefixOf frames all → IsPrefixOf frames (all ++ more)
 prefix_stays frames all more (rest, is) = (rest ++ more, sym (append_assoc frames rest more) ∙ ap (λ l. l ++ more) is)
 
-pub prefix_more : (frames all : List Frame) (frame : Frame) → IsPrefixOf frames all → slice_get all (length frames) ≡ Some frame → IsPrefixOf (frames ++ frame ∷ []) all
+pub prefix_more : (frames all : List Frame) (frame : Frame) → IsPrefixOf frames all → slice_get all (length frames) ≡ Some frame
+    → IsPrefixOf (frames ++ frame ∷ []) all
 prefix_more frames all frame (rest, is) at =
     let there : slice_get (frames ++ rest) (length frames) ≡ Some frame = ap (λ l. slice_get l (length frames)) is ∙ at in
     let (more, next) = next_after frames rest frame there in
@@ -87,11 +92,17 @@ module _ (own other : Side) where
       record {
         forth = record {
           sound = sound_with_entry own (Sent frame) s.forth.sound
-              (legal_sent own.width own.limit own.history frame s.forth.sound.legal (omega (arith, within.acked, length-held own.history)) room);
-          takes = rw (sent-append own.history (Sent frame ∷ [])) (prefix_stays (taken other.history) (sent own.history) (frame ∷ []) s.forth.takes);
+              (legal_sent own.width own.limit own.history frame s.forth.sound.legal
+              (omega (arith, within.acked, length-held own.history)) room);
+          takes = rw (sent-append own.history (Sent frame ∷ [])) (prefix_stays (taken other.history) (sent own.history)
+              (frame ∷ []) s.forth.takes);
           acks = omega (arith, s.forth.acks, acked_count-append own.history (Sent frame ∷ []));
         };
-        back = record { sound = s.back.sound; takes = rw (taken-append own.history (Sent frame ∷ []), append-nil) s.back.takes; acks = omega (arith, s.back.acks, taken_count-append own.history (Sent frame ∷ [])) };
+        back = record {
+          sound = s.back.sound;
+          takes = rw (taken-append own.history (Sent frame ∷ []), append-nil) s.back.takes;
+          acks = omega (arith, s.back.acks, taken_count-append own.history (Sent frame ∷ []));
+        };
       }
 
   -- an acknowledgement counts
@@ -106,7 +117,12 @@ module _ (own other : Side) where
           takes = rw (sent-append own.history (EntryAcked count ∷ []), append-nil) s.forth.takes;
           acks = omega (arith, in_taken, acked_count-append own.history (EntryAcked count ∷ []));
         };
-        back = record { sound = s.back.sound; takes = rw (taken-append own.history (EntryAcked count ∷ []), append-nil) s.back.takes; acks = omega (arith, s.back.acks, taken_count-append own.history (EntryAcked count ∷ [])) };
+        back = record {
+          sound = s.back.sound;
+          takes = rw (taken-append own.history (EntryAcked count ∷ []), append-nil)
+              s.back.takes;
+          acks = omega (arith, s.back.acks, taken_count-append own.history (EntryAcked count ∷ []));
+        };
       }
 
   -- a frame of the other side is taken
@@ -120,7 +136,13 @@ module _ (own other : Side) where
           takes = rw (sent-append own.history (EntryTaken frame ∷ []), append-nil) s.forth.takes;
           acks = omega (arith, s.forth.acks, acked_count-append own.history (EntryTaken frame ∷ []));
         };
-        back = record { sound = s.back.sound; takes = rw (taken-append own.history (EntryTaken frame ∷ [])) (prefix_more (taken own.history) (sent other.history) frame s.back.takes next); acks = omega (arith, s.back.acks, taken_count-append own.history (EntryTaken frame ∷ [])) };
+        back = record {
+          sound = s.back.sound;
+          takes = rw (taken-append own.history (EntryTaken frame ∷ []))
+              (prefix_more (taken own.history) (sent other.history) frame s.back.takes next);
+          acks =
+              omega (arith, s.back.acks, taken_count-append own.history (EntryTaken frame ∷ []));
+        };
       }
 
   -- the side sends a datagram

@@ -8,3 +8,4 @@ pub mod InStep
 pub mod Rounds
 pub mod Actions
 pub mod Turns
+pub mod Sending

@@ -1,5 +1,6 @@
 -- The effect of one more entry on a record.
-use Rattle.std.proofs.Common.{◌≡◌, ℕ, ◌+◌, ◌-◌, ◌<◌, ◌≤◌, List, [], ◌∷◌, ◌++◌, length, take, Some, slice_get, refl, ap, sym, ◌∙◌, subst, ◌⊎◌, inl, inr, arith, zero-add, length-append, length-drop}
+use Rattle.std.proofs.Common.{◌≡◌, ℕ, ◌+◌, ◌-◌, ◌<◌, ◌≤◌, List, [], ◌∷◌, ◌++◌, length, take, Some, slice_get, refl, ap, sym, ◌∙◌}
+use Rattle.std.proofs.Common.{subst, ◌⊎◌, inl, inr, arith, zero-add, length-append, length-drop}
 use Rattle.std.proofs.lemmas.Bool.{cases_lt}
 use Rattle.std.proofs.lemmas.List.{take-append-le, take_all, length_push}
 use Rattle.std.proofs.lemmas.List.Elements.{All-nil, All-push}
@@ -23,7 +24,8 @@ taken-append (Taken frame ∷ xs) ys = ap (λ frames. frame ∷ frames) (taken-a
 pub acked_count-append : (xs ys : List Entry) → acked_count (xs ++ ys) ≡ acked_count xs + acked_count ys
 acked_count-append [] ys = sym (zero-add (acked_count ys))
 acked_count-append (Sent frame ∷ xs) ys = acked_count-append xs ys
-acked_count-append (Acked count ∷ xs) ys = let rest : acked_count (xs ++ ys) ≡ acked_count xs + acked_count ys = acked_count-append xs ys in omega arith
+acked_count-append (Acked count ∷ xs) ys = let rest : acked_count (xs ++ ys) ≡ acked_count xs + acked_count ys =
+    acked_count-append xs ys in omega arith
 acked_count-append (Taken frame ∷ xs) ys = acked_count-append xs ys
 
 pub sent_count-append : (xs ys : List Entry) → sent_count (xs ++ ys) ≡ sent_count xs + sent_count ys
@@ -41,7 +43,8 @@ legal_now width limit entries legal =
 pub legal_empty : (width limit : ℕ) → IsLegal width limit []
 legal_empty width limit = record {
   some_acked = All-nil AcksSome;
-  at_each_moment = λ moment. subst (IsWithinWindow width) (sym (take_all moment [] (omega arith))) (record { acked = omega arith; held = omega arith });
+  at_each_moment = λ moment. subst (IsWithinWindow width) (sym (take_all moment [] (omega arith)))
+      (record { acked = omega arith; held = omega arith });
   within_limit = omega arith;
 }
 
@@ -54,7 +57,8 @@ legal_push width limit entries entry legal some within room = record {
   within_limit = omega (arith, length_push entries entry);
 }
   where
-    at : (moment : ℕ) → (length entries < moment) ⊎ (moment ≤ length entries) → IsWithinWindow width (take moment (entries ++ entry ∷ []))
+    at : (moment : ℕ) → (length entries < moment) ⊎ (moment ≤ length entries)
+        → IsWithinWindow width (take moment (entries ++ entry ∷ []))
     at moment (inl past) = rw (take_all moment (entries ++ entry ∷ []) (omega (arith, length_push entries entry))) within
     at moment (inr before) = rw (take-append-le moment entries (entry ∷ []) before) (legal.at_each_moment moment)
 
@@ -74,20 +78,31 @@ legal_sent width limit entries frame legal narrow room =
     let within : IsWithinWindow width entries = legal_now width limit entries legal in
     legal_push width limit entries (Sent frame) legal tt
     (record {
-      acked = omega (arith, within.acked, sent_count-append entries (Sent frame ∷ []), acked_count-append entries (Sent frame ∷ []));
+      acked = omega (
+        arith,
+        within.acked,
+        sent_count-append entries (Sent frame ∷ []),
+        acked_count-append entries (Sent frame ∷ []),
+      );
       held = omega (arith, sent_count-append entries (Sent frame ∷ []), acked_count-append entries (Sent frame ∷ []));
     })
     (omega arith)
 
 -- some frames that were sent are acknowledged
 pub legal_acked : (width limit : ℕ) (entries : List Entry) (count : ℕ) → IsLegal width limit entries → 1 ≤ count
-    → acked_count entries + count ≤ sent_count entries → length entries < limit → IsLegal width limit (entries ++ Acked count ∷ [])
+    → acked_count entries + count ≤ sent_count entries → length entries < limit
+    → IsLegal width limit (entries ++ Acked count ∷ [])
 legal_acked width limit entries count legal some sent room =
     let within : IsWithinWindow width entries = legal_now width limit entries legal in
     legal_push width limit entries (Acked count) legal some
     (record {
       acked = omega (arith, sent_count-append entries (Acked count ∷ []), acked_count-append entries (Acked count ∷ []));
-      held = omega (arith, within.held, sent_count-append entries (Acked count ∷ []), acked_count-append entries (Acked count ∷ []));
+      held = omega (
+        arith,
+        within.held,
+        sent_count-append entries (Acked count ∷ []),
+        acked_count-append entries (Acked count ∷ []),
+      );
     })
     (omega arith)
 
@@ -98,8 +113,18 @@ legal_taken width limit entries frame legal room =
     let within : IsWithinWindow width entries = legal_now width limit entries legal in
     legal_push width limit entries (Taken frame) legal tt
     (record {
-      acked = omega (arith, within.acked, sent_count-append entries (Taken frame ∷ []), acked_count-append entries (Taken frame ∷ []));
-      held = omega (arith, within.held, sent_count-append entries (Taken frame ∷ []), acked_count-append entries (Taken frame ∷ []));
+      acked = omega (
+        arith,
+        within.acked,
+        sent_count-append entries (Taken frame ∷ []),
+        acked_count-append entries (Taken frame ∷ []),
+      );
+      held = omega (
+        arith,
+        within.held,
+        sent_count-append entries (Taken frame ∷ []),
+        acked_count-append entries (Taken frame ∷ []),
+      );
     })
     (omega arith)
 

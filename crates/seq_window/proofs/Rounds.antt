@@ -1,5 +1,6 @@
 -- Frames that are sent, taken and acknowledged one after the other.
-use Rattle.std.proofs.Common.{◌≡◌, ℕ, ◌+◌, ◌-◌, ◌*◌, ◌<◌, ◌≤◌, true, ◌&&◌, List, [], ◌∷◌, ◌++◌, length, Some, None, pos, add-one, refl, ap, sym, ◌∙◌, subst, arith, append-nil, append_assoc}
+use Rattle.std.proofs.Common.{◌≡◌, ℕ, ◌+◌, ◌-◌, ◌*◌, ◌<◌, ◌≤◌, true, ◌&&◌, List, [], ◌∷◌, ◌++◌, length, Some, None, pos, add-one}
+use Rattle.std.proofs.Common.{refl, ap, sym, ◌∙◌, subst, arith, append-nil, append_assoc}
 use Rattle.std.specs.Prelude.{nat_lt, nat_le}
 use Rattle.std.specs.List.{flat_map}
 use Rattle.std.proofs.lemmas.Bool.{cond-true, and_from, lt-ltb, le-leb}
@@ -13,7 +14,9 @@ use Rattle.seq_window.specs.History.{taken, sent_count, taken_count, acked_count
 use Rattle.seq_window.specs.Sequence.{byte_of, number_judged, acknowledgement_judged}
 use Rattle.seq_window.specs.Window.{judged_acknowledgement, judged_number, count_of, entries_for_count, entries_for_number}
 use Rattle.seq_window.specs.Turn.{extended}
-use Rattle.seq_window.specs.Network.{Datagram, Side, Network, Event, AtFirst, AtSecond, Size, SendNumbered, SendUnnumbered, JudgeAcknowledgement, JudgeNumber, datagram_of, start, happens, run, after_send, after_acknowledgement, after_number, IsFresh, IsFreshEvent, round_of, GetThrough}
+use Rattle.seq_window.specs.Network.{Datagram, Side, Network, Event, AtFirst, AtSecond, Size, SendNumbered, SendUnnumbered}
+use Rattle.seq_window.specs.Network.{JudgeAcknowledgement, JudgeNumber, datagram_of, start, happens, run, after_send}
+use Rattle.seq_window.specs.Network.{after_acknowledgement, after_number, IsFresh, IsFreshEvent, round_of, GetThrough}
 use Rattle.seq_window.proofs.Numbers.{number_byte_is, acknowledgement_byte_is}
 use Rattle.seq_window.proofs.Records.{taken-append, sent_count-append, taken_count-append, acked_count-append, length-held}
 use Rattle.seq_window.proofs.InStep.{with_entry, with_datagram}
@@ -40,8 +43,10 @@ record IsRested (network : Network) (done : List Frame) (left : ℕ) : Type 0 wh
   second_room : length network.second.history + left ≤ network.second.limit
 
 -- if the entries fit
-pub extended_fits : (limit : ℕ) (entries more : List Entry) → length entries + length more ≤ limit → extended limit entries more ≡ entries ++ more
-extended_fits limit entries more fits = cond-true (nat_le (length entries + length more) limit) (entries ++ more) entries (le-leb (length entries + length more) limit fits)
+pub extended_fits : (limit : ℕ) (entries more : List Entry) → length entries + length more ≤ limit
+    → extended limit entries more ≡ entries ++ more
+extended_fits limit entries more fits = cond-true (nat_le (length entries + length more) limit) (entries ++ more) entries
+    (le-leb (length entries + length more) limit fits)
 
 expected_taken : (expected number : ℕ) → number ≡ expected → number_judged expected (pos number) ≡ Taken
 expected_taken expected number is = grind (arith, nat_tests)
@@ -55,7 +60,8 @@ one_acked acked sent number is all =
 
 -- the sides after the events of one round
 abbrev sender_sent : Network → Frame → Side
-sender_sent network frame = with_datagram (with_entry network.first (Sent frame)) (datagram_of network.first.history (sent_count network.first.history) (Some frame))
+sender_sent network frame = with_datagram (with_entry network.first (Sent frame))
+    (datagram_of network.first.history (sent_count network.first.history) (Some frame))
 
 abbrev receiver_told : Network → Frame → Side
 receiver_told network frame =
@@ -63,19 +69,31 @@ receiver_told network frame =
     with_datagram grown (datagram_of grown.history (sent_count grown.history) None)
 
 abbrev after_round : Network → Frame → Network
-after_round network frame = record { first = with_entry (sender_sent network frame) (EntryAcked 1); second = receiver_told network frame }
+after_round network frame = record {
+  first = with_entry (sender_sent network frame) (EntryAcked 1);
+  second = receiver_told network frame;
+}
 
 module _ (network : Network) (done : List Frame) (left : ℕ) (frame : Frame) (rested : IsRested network done (left + 1)) where
   sends : after_send network.first frame ≡ sender_sent network frame
   sends =
-      let narrow : length (held network.first.history) < network.first.width = omega (arith, length-held network.first.history, rested.sent_is, rested.acked_is, rested.width) in
+      let narrow : length (held network.first.history) < network.first.width = omega (
+        arith,
+        length-held network.first.history,
+        rested.sent_is,
+        rested.acked_is,
+        rested.width,
+      ) in
       let short : length network.first.history < network.first.limit = omega (arith, rested.first_room) in
-      cond-true (nat_lt (length (held network.first.history)) network.first.width && nat_lt (length network.first.history) network.first.limit)
+      cond-true (nat_lt (length (held network.first.history)) network.first.width && nat_lt (length network.first.history)
+      network.first.limit)
       (sender_sent network frame) network.first (and_from _ _ (lt-ltb _ _ narrow) (lt-ltb _ _ short))
 
-  takes : after_number network.second (sent_count network.first.history) (Some frame) ≡ with_entry network.second (EntryTaken frame)
+  takes : after_number network.second (sent_count network.first.history) (Some frame) ≡ with_entry network.second
+      (EntryTaken frame)
   takes =
-      let expected : sent_count network.first.history ≡ taken_count network.second.history = rested.sent_is ∙ sym (ap length rested.taken_is) in
+      let expected : sent_count network.first.history ≡ taken_count network.second.history =
+      rested.sent_is ∙ sym (ap length rested.taken_is) in
       let judged : judged_number network.second.history (byte_of (sent_count network.first.history)) ≡ Taken =
       number_byte_is (taken_count network.second.history) (sent_count network.first.history) (omega arith) (omega arith)
       ∙ expected_taken (taken_count network.second.history) (sent_count network.first.history) expected in
@@ -86,15 +104,21 @@ module _ (network : Network) (done : List Frame) (left : ℕ) (frame : Frame) (r
   learns : (datagram : Datagram) → datagram.acknowledgement ≡ length done + 1
       → after_acknowledgement (sender_sent network frame) (Some datagram) ≡ with_entry (sender_sent network frame) (EntryAcked 1)
   learns datagram number =
-      let sent : sent_count (network.first.history ++ Sent frame ∷ []) ≡ length done + 1 = omega (arith, rested.sent_is, sent_count-append network.first.history (Sent frame ∷ [])) in
-      let acked : acked_count (network.first.history ++ Sent frame ∷ []) ≡ length done = omega (arith, rested.acked_is, acked_count-append network.first.history (Sent frame ∷ [])) in
-      let judged : judged_acknowledgement (network.first.history ++ Sent frame ∷ []) (byte_of datagram.acknowledgement) ≡ Acked 1 =
-      acknowledgement_byte_is (acked_count (network.first.history ++ Sent frame ∷ [])) (sent_count (network.first.history ++ Sent frame ∷ [])) datagram.acknowledgement
+      let sent : sent_count (network.first.history ++ Sent frame ∷ []) ≡ length done + 1 =
+      omega (arith, rested.sent_is, sent_count-append network.first.history (Sent frame ∷ [])) in
+      let acked : acked_count (network.first.history ++ Sent frame ∷ []) ≡ length done =
+      omega (arith, rested.acked_is, acked_count-append network.first.history (Sent frame ∷ [])) in
+      let judged : judged_acknowledgement (network.first.history ++ Sent frame ∷ []) (byte_of datagram.acknowledgement)
+      ≡ Acked 1 =
+      acknowledgement_byte_is (acked_count (network.first.history ++ Sent frame ∷ []))
+      (sent_count (network.first.history ++ Sent frame ∷ [])) datagram.acknowledgement
       (omega arith) (omega arith) (omega arith)
-      ∙ one_acked (acked_count (network.first.history ++ Sent frame ∷ [])) (sent_count (network.first.history ++ Sent frame ∷ [])) datagram.acknowledgement (omega arith) (omega arith) in
+      ∙ one_acked (acked_count (network.first.history ++ Sent frame ∷ [])) (sent_count (network.first.history ++ Sent frame ∷ []))
+      datagram.acknowledgement (omega arith) (omega arith) in
       ap (λ entries. record (sender_sent network frame) { history = entries })
       (ap (λ j. extended network.first.limit (network.first.history ++ Sent frame ∷ []) (entries_for_count (count_of j))) judged
-      ∙ extended_fits network.first.limit (network.first.history ++ Sent frame ∷ []) (EntryAcked 1 ∷ []) (omega (arith, rested.first_room, length_push network.first.history (Sent frame))))
+      ∙ extended_fits network.first.limit (network.first.history ++ Sent frame ∷ []) (EntryAcked 1 ∷ [])
+      (omega (arith, rested.first_room, length_push network.first.history (Sent frame))))
 
   taken_more : taken_count (network.second.history ++ EntryTaken frame ∷ []) ≡ length done + 1
   taken_more = omega (arith, ap length rested.taken_is, taken_count-append network.second.history (EntryTaken frame ∷ []))
@@ -102,26 +126,54 @@ module _ (network : Network) (done : List Frame) (left : ℕ) (frame : Frame) (r
   acked_before : acked_count (network.first.history ++ Sent frame ∷ []) ≡ length done
   acked_before = omega (arith, rested.acked_is, acked_count-append network.first.history (Sent frame ∷ []))
 
-  one_round : (events : List Event) (Holds : Network → Type 0) → Leads events (after_round network frame) Holds → Leads (round_of frame ++ events) network Holds
+  one_round : (events : List Event) (Holds : Network → Type 0) → Leads events (after_round network frame) Holds
+      → Leads (round_of frame ++ events) network Holds
   one_round events Holds leads =
-      first_event (AtFirst (SendNumbered frame)) _ network (record { first = sender_sent network frame; second = network.second }) Holds tt (ap (λ side. record { first = side; second = network.second }) sends)
+      first_event (AtFirst (SendNumbered frame)) _ network (record { first = sender_sent network frame; second = network.second })
+      Holds tt (ap (λ side. record { first = side; second = network.second }) sends)
       (first_event (AtSecond (JudgeNumber 0)) _ (record { first = sender_sent network frame; second = network.second })
       (record { first = sender_sent network frame; second = with_entry network.second (EntryTaken frame) }) Holds
-      (omega (arith, rested.sent_is, ap length rested.taken_is)) (ap (λ side. record { first = sender_sent network frame; second = side }) takes)
-      (first_event (AtSecond SendUnnumbered) _ (record { first = sender_sent network frame; second = with_entry network.second (EntryTaken frame) })
+      (omega (arith, rested.sent_is, ap length rested.taken_is))
+      (ap (λ side. record { first = sender_sent network frame; second = side }) takes)
+      (first_event (AtSecond SendUnnumbered) _ (record {
+        first = sender_sent network frame;
+        second = with_entry network.second
+            (EntryTaken frame);
+      })
       (record { first = sender_sent network frame; second = receiver_told network frame }) Holds tt refl
-      (first_event (AtFirst (JudgeAcknowledgement 0)) events (record { first = sender_sent network frame; second = receiver_told network frame })
+      (first_event (AtFirst (JudgeAcknowledgement 0)) events
+      (record { first = sender_sent network frame; second = receiver_told network frame })
       (after_round network frame) Holds (omega (arith, taken_more, acked_before))
-      (ap (λ side. record { first = side; second = receiver_told network frame }) (learns (datagram_of (network.second.history ++ EntryTaken frame ∷ []) (sent_count (network.second.history ++ EntryTaken frame ∷ [])) None) taken_more))
+      (ap (λ side. record { first = side; second = receiver_told network frame })
+      (learns (datagram_of (network.second.history ++ EntryTaken frame ∷ [])
+      (sent_count (network.second.history ++ EntryTaken frame ∷ [])) None) taken_more))
       leads)))
 
   rested_after : IsRested (after_round network frame) (done ++ frame ∷ []) left
   rested_after = record {
     taken_is = taken-append network.second.history (EntryTaken frame ∷ []) ∙ ap (λ frames. frames ++ frame ∷ []) rested.taken_is;
-    sent_is = omega (arith, rested.sent_is, length_push done frame, sent_count-append (network.first.history ++ Sent frame ∷ []) (EntryAcked 1 ∷ []), sent_count-append network.first.history (Sent frame ∷ []));
-    acked_is = omega (arith, length_push done frame, acked_before, acked_count-append (network.first.history ++ Sent frame ∷ []) (EntryAcked 1 ∷ []));
+    sent_is = omega (
+      arith,
+      rested.sent_is,
+      length_push done frame,
+      sent_count-append (network.first.history ++ Sent frame ∷ [])
+          (EntryAcked 1 ∷ []),
+      sent_count-append network.first.history (Sent frame ∷ []),
+    );
+    acked_is = omega (
+      arith,
+      length_push done frame,
+      acked_before,
+      acked_count-append (network.first.history ++ Sent frame ∷ [])
+          (EntryAcked 1 ∷ []),
+    );
     width = rested.width;
-    first_room = omega (arith, rested.first_room, length_push network.first.history (Sent frame), length_push (network.first.history ++ Sent frame ∷ []) (EntryAcked 1));
+    first_room = omega (
+      arith,
+      rested.first_room,
+      length_push network.first.history (Sent frame),
+      length_push (network.first.history ++ Sent frame ∷ []) (EntryAcked 1),
+    );
     second_room = omega (arith, rested.second_room, length_push network.second.history (EntryTaken frame));
   }
 
@@ -133,17 +185,34 @@ record HaveCome (frames : List Frame) (network : Network) : Type 0 where
 all_rounds : (frames : List Frame) (network : Network) (done : List Frame) → IsRested network done (length frames)
     → Leads (flat_map round_of frames) network (HaveCome (done ++ frames))
 all_rounds [] network done rested =
-    record { fresh = tt; holds = record { all_taken = rested.taken_is ∙ sym (append-nil done); all_acked = rested.acked_is ∙ ap length (sym (append-nil done)) } }
+    record {
+      fresh = tt;
+      holds = record {
+        all_taken = rested.taken_is ∙ sym (append-nil done);
+        all_acked = rested.acked_is
+            ∙ ap length (sym (append-nil done));
+      };
+    }
 all_rounds (frame ∷ frames) network done rested =
     let now : IsRested network done (length frames + 1) = rw add-one rested in
     one_round network done (length frames) frame now (flat_map round_of frames) (HaveCome (done ++ frame ∷ frames))
-    (subst (λ all. Leads (flat_map round_of frames) (after_round network frame) (HaveCome all)) (append_assoc done (frame ∷ []) frames)
+    (subst (λ all. Leads (flat_map round_of frames) (after_round network frame) (HaveCome all))
+    (append_assoc done (frame ∷ []) frames)
     (all_rounds frames (after_round network frame) (done ++ frame ∷ []) (rested_after network done (length frames) frame now)))
 
-pub all_get_through : (frames : List Frame) (first second : Size) → 1 ≤ first.width → 2 * length frames ≤ first.limit → length frames ≤ second.limit
+pub all_get_through : (frames : List Frame) (first second : Size) → 1 ≤ first.width → 2 * length frames ≤ first.limit
+    → length frames ≤ second.limit
     → GetThrough frames (start first second)
 all_get_through frames first second width first_room second_room =
     let rested : IsRested (start first second) [] (length frames) =
-    record { taken_is = refl; sent_is = refl; acked_is = refl; width = width; first_room = omega arith; second_room = omega arith } in
-    let all : Leads (flat_map round_of frames) (start first second) (HaveCome frames) = all_rounds frames (start first second) [] rested in
+    record {
+      taken_is = refl;
+      sent_is = refl;
+      acked_is = refl;
+      width = width;
+      first_room = omega arith;
+      second_room = omega arith;
+    } in
+    let all : Leads (flat_map round_of frames) (start first second) (HaveCome frames) = all_rounds frames (start first second) []
+    rested in
     record { fresh = all.fresh; all_taken = all.holds.all_taken; all_acked = all.holds.all_acked }

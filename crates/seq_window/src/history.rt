@@ -1,6 +1,7 @@
 //! The record of a leg: the frames that it sent, the acknowledgements, and the frames that it took.
 
-ghost use Rattle.std.specs.Prelude.{◌≡◌, ◌+◌, ◌-◌, ◌*◌, ◌<◌, ◌≤◌, ◌==◌, [], ◌∷◌, ◌++◌, length, slice_get, Some, IsOk, OnOk, OnErr, max};
+ghost use Rattle.std.specs.Prelude.{◌≡◌, ◌+◌, ◌-◌, ◌*◌, ◌<◌, ◌≤◌, ◌==◌, [], ◌∷◌, ◌++◌, length, slice_get, Some, IsOk, OnOk};
+ghost use Rattle.std.specs.Prelude.{OnErr, max};
 ghost use Rattle.std.specs.Prelude.{sum_by};
 ghost use Rattle.std.specs.Option.{option_map};
 ghost use Rattle.seq_window.specs.Entry.{Sent as EntrySent};
@@ -8,7 +9,9 @@ ghost use Rattle.seq_window.specs.History.{sent_count, acked_count, taken_count,
 ghost use Rattle.seq_window.specs.Record.{entry_of, frame_of, octets_of, IsSent};
 ghost use Rattle.seq_window.specs.RecordFields.{frame_at, entry_at, counted_by, head_len, EndsBelow};
 ghost use Rattle.std.specs.Vec.{vec_capacity};
+ghost use Rattle.memory_requests.specs.Refused.{WasRefused};
 
+use memory_requests::{octets_of, reserve};
 use std::alloc::{AllocError, Global};
 use std::marker::Model;
 
@@ -144,11 +147,12 @@ impl Record {
         ensures spare { OnOk result (self.new.spare ≡ max self.old.spare count) }
         ensures had_room { count ≤ self.old.spare → IsOk result }
         ensures err { OnErr result (self.new ≡ self.old) }
+        ensures no_memory { OnErr result WasRefused }
     {
         if count <= self.spare {
             return Ok(());
         }
-        self.heads.reserve(count)?;
+        reserve(&mut self.heads, count)?;
         reserve_octets(&mut self.octets, count)?;
         self.spare = count;
         Ok(())
@@ -162,6 +166,7 @@ impl Record {
             record { entries = self.old.entries ++ entry_of added.entry ∷ []; spare = self.old.spare - 1 }) }
         ensures memory { OnErr result (self.old.spare ≡ 0) }
         ensures err { OnErr result (self.new ≡ self.old) }
+        ensures no_memory { OnErr result WasRefused }
     {
         self.reserve(1)?;
         let head = push_head(&mut self.octets, added);
@@ -229,12 +234,11 @@ fn reserve_octets(octets: &mut Vec<u8>, count: usize) -> Result<(), AllocError>
     ensures octets { octets.new.items ≡ octets.old.items }
     ensures room { OnOk result (length octets.new.items + 1388 * count ≤ vec_capacity octets.new) }
     ensures kept { vec_capacity octets.old ≤ vec_capacity octets.new }
+    ensures no_memory { OnErr result WasRefused }
 {
-    let Some(needed) = count.checked_mul(MAX_PAYLOAD) else {
-        return Err(AllocError);
-    };
+    let needed = octets_of(count, MAX_PAYLOAD)?;
     if octets.capacity() - octets.len() < needed {
-        octets.reserve(needed.saturating_add(MAX_PAYLOAD))?;
+        reserve(octets, needed.saturating_add(MAX_PAYLOAD))?;
     }
     Ok(())
 }

@@ -10,6 +10,7 @@ ghost use Rattle.seq_window.specs.Window.{held_count, entry_count, is_full, judg
 ghost use Rattle.seq_window.specs.Window.{after_sending, after_acknowledgement, after_receiving, held_at, after_touching};
 ghost use Rattle.seq_window.specs.Window.{after_touching_all, first_due, tries_at, after_marking, resent, after_resent};
 ghost use Rattle.seq_window.specs.Window.{IsPlaceBelow};
+ghost use Rattle.memory_requests.specs.Refused.{WasRefused};
 
 use crate::errors::{RecordError, SendError};
 use crate::history::{EntryView, FrameView, Record};
@@ -59,7 +60,8 @@ impl Window {
         requires narrow { width ≤ 127 }
         requires least { 64 ≤ record_limit }
         requires most { record_limit ≤ 65536 }
-        ensures { IfOk result (λ w. w.state ≡ record { history = []; width = width; limit = record_limit; sendings = [] }) }
+        ensures state { IfOk result (λ w. w.state ≡ record { history = []; width = width; limit = record_limit; sendings = [] }) }
+        ensures no_memory { OnErr result WasRefused }
     {
         let held = Resend::new(alloc, width)?;
         Ok(Window {
@@ -93,6 +95,7 @@ impl Window {
             (held_count self.old.state < self.old.state.width) × (entry_count self.old.state ≡ self.old.state.limit) }
         ensures memory { result ≡ Err SendError.Memory → self.old.spare ≡ 0 }
         ensures err { OnErr result (self.new ≡ self.old) }
+        ensures no_memory { result ≡ Err SendError.Memory → WasRefused }
     {
         if self.is_full() {
             return Err(SendError::WindowFull);
@@ -135,6 +138,7 @@ impl Window {
         ensures memory { result ≡ Err RecordError.Memory →
             (0 < count_of (judged_acknowledgement self.old.state.history iseq)) × (self.old.spare ≡ 0) }
         ensures err { OnErr result (self.new ≡ self.old) }
+        ensures no_memory { result ≡ Err RecordError.Memory → WasRefused }
     {
         let judged = self.judged(iseq);
         let Acknowledged::Acked(count) = judged else {
@@ -197,6 +201,7 @@ impl Window {
         ensures memory { result ≡ Err RecordError.Memory →
             (judged_number self.old.state.history oseq ≡ received.Taken) × (self.old.spare ≡ 0) }
         ensures err { OnErr result (self.new ≡ self.old) }
+        ensures no_memory { result ≡ Err RecordError.Memory → WasRefused }
     {
         let judged = self.judge(oseq);
         if judged != Received::Taken {
@@ -286,6 +291,7 @@ impl Window {
         ensures spare { self.old.spare ≤ self.new.spare }
         ensures had_room { count ≤ self.old.spare → IsOk result }
         ensures err { OnErr result (self.new ≡ self.old) }
+        ensures no_memory { OnErr result WasRefused }
     {
         self.history.reserve(count)
     }

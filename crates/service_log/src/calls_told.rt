@@ -1,8 +1,7 @@
 //! Log lines about the file of call records.
 use crate::lines::tell;
 use crate::writer_told::WriterTold;
-use call_files::{Fault, Trouble};
-use call_writer::FileState;
+use call_files::{Fault, FileState, Trouble};
 use log::{Level, Log};
 use std::io;
 use std::io::ErrorKind;

@@ -1,7 +1,7 @@
 //! Log lines about datagrams that the system dropped.
 use crate::lines::{more_than, tell_count};
 use log::{Level, Log};
-use service_watch::DropCount;
+use service_state::DropCount;
 use std::iter;
 
 // Logs the datagrams that the system dropped at each worker's socket in a round of `seconds` seconds.

@@ -6,8 +6,8 @@ use call_records::{CallRow, ending_name};
 use call_signals::ElementText;
 use log::{Level, Log, log_enabled};
 use peer_plan::Plan;
-use printable_text::printable;
-use service_watch::Wanted;
+use plain_text::printable;
+use service_state::Wanted;
 use std::alloc::{AllocError, Global};
 
 // The number of octets that `LastFour` shows.

@@ -16,4 +16,4 @@ mod writer_told;
 pub use calls_told::tell_end;
 pub use ends_told::{CallLines, ShownNumbers};
 pub use start_told::tell_start;
-pub use telling::Told;
+pub use telling::LogState;

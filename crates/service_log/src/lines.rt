@@ -1,7 +1,7 @@
 //! Log lines, and counts that are logged once a round.
 use log::{Level, Log, log};
 use peer_plan::Endpoint;
-use service_report::counted_since;
+use service_state::counted_since;
 use std::fmt::Display;
 use std::net::{Ipv4Addr, SocketAddrV4};
 

@@ -4,7 +4,7 @@ ghost use Rattle.std.specs.Prelude.{◌<◌, length};
 use crate::lines::tell;
 use log::{Level, Log};
 use peer_plan::Plan;
-use service_report::News;
+use service_state::News;
 
 // A peer counts as silent after this number of its `ping_ms`.
 const PINGS: u64 = 3;

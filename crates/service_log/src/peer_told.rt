@@ -4,9 +4,9 @@ use exchange_core::Rejection;
 use exchange_report::{PeerLosses, refusal_name};
 use log::{Level, Log};
 use peer_plan::Endpoint;
-use service_report::{Hearing, News, Reach, news_of, reach_of};
-use service_watch::{
-    AUTH_FAILURES, AuthFailure, PeerMarksRead, REFUSALS, REJECTIONS, ServiceWatch,
+use service_state::{
+    AUTH_FAILURES, AuthFailure, Hearing, News, PeerMarksRead, REFUSALS, REJECTIONS, Reach,
+    ServiceWatch, news_of, reach_of,
 };
 use std::iter;
 

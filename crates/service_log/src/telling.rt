@@ -9,16 +9,14 @@ use crate::strangers::Strangers;
 use crate::writer_told::WriterTold;
 use call_files::{Fault, Trouble};
 use call_records::CallRow;
-use exchange_core::Refusal;
+use exchange_core::{Refusal, ServiceStage, Watch};
 use exchange_report::{PeerLosses, refusal_name};
 use log::{Level, Log, log_enabled};
 use peer_plan::{Endpoint, Plan};
-use service_report::Rounds;
-use service_watch::{NOTED, STRANGERS, ServiceWatch, SocketTable, Wanted, drop_counts};
+use service_state::{NOTED, Rounds, STRANGERS, ServiceWatch, SocketTable, Wanted, drop_counts};
 use std::alloc::{AllocError, Global};
 use std::mem;
 use std::sync::Wait;
-use worker_watch::{ServiceStage, Watch};
 
 // The length of a round for ended legs, in milliseconds.
 const LEGS_MS: u64 = 1000;
@@ -28,7 +26,7 @@ const REFUSALS_MS: u64 = 10_000;
 
 /// The state of a service's log: the last logged values of the service and of its peers, and the rounds of the log.
 #[derive(Drop)]
-pub struct Told<'s> {
+pub struct LogState<'s> {
     plan: &'s Plan,
     watch: &'s ServiceWatch,
     // The path of the file of call records, and of the folder of the trace.
@@ -59,7 +57,7 @@ fn rounds_of(period: u64, since: u64) -> Rounds {
     Rounds { period, since }
 }
 
-impl<'s> Told<'s> {
+impl<'s> LogState<'s> {
     /// Returns the log of a service in which nothing was logged yet. The service runs `plan` and counts in `watch`. `now`
     /// is the moment it began, in milliseconds since the exchange was opened. `calls` is the path of the file of call
     /// records and `trace` that of the trace's folder, if these are wanted. `call_lines` says how calls are logged.
@@ -74,9 +72,9 @@ impl<'s> Told<'s> {
         trace: Option<&'s str>,
         call_lines: CallLines,
         now: u64,
-    ) -> Result<Told<'s>, AllocError> {
+    ) -> Result<LogState<'s>, AllocError> {
         let strangers = Strangers::new(alloc)?;
-        let mut told = Told {
+        let mut told = LogState {
             plan,
             watch,
             calls_path: calls,
@@ -162,7 +160,8 @@ impl<'s> Told<'s> {
         rounds.due(now).is_some()
     }
 
-    /// Notes the moment of the first POKE of a run that the peer at this place of the plan didn't answer; `None` if there is no such
+    /// Notes the moment of the first POKE of a run that the peer at this place of the plan didn't answer; `None` if there is no
+    /// such
     /// run.
     pub fn note_unanswered(&mut self, peer: u16, unanswered_since: Option<u64>) {
         let watch = self.watch;

@@ -1,8 +1,8 @@
 //! The order in which free numbers are given out, and the serial of the next leg, as the lines of a script say them.
 use crate::trace::Trace;
 use peer_plan::Plan;
+use plain_text::TextBuffer;
 use std::alloc::{AllocError, Global};
-use text_buffer::TextBuffer;
 
 // Returns the numbers of a peer that has no leg, each with the moment at which it was last freed. They are in the order in
 // which they are given out: first those that never had a leg.

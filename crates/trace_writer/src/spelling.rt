@@ -7,9 +7,9 @@ use crate::free_numbers::drain_line;
 use crate::hexadecimal::end_in_hex;
 use crate::mark::{Input, Mark};
 use peer_plan::{Endpoint, Plan};
+use plain_text::TextBuffer;
 use std::alloc::{AllocError, Global};
 use std::io::Write;
-use text_buffer::TextBuffer;
 
 /// How a trace is written.
 #[derive(Clone, Copy)]

@@ -1,5 +1,6 @@
 -- Packing a trunk frame from the front of a ring, entry by entry.
-use Rattle.std.proofs.Common.{◌≡◌, ℕ, ◌+◌, ◌-◌, ◌<◌, ◌≤◌, Bool, true, false, IsTrue, ◌↔◌, get_or, List, [], ◌∷◌, ◌++◌, length, drop, Some, refl, sym, ap, subst, ◌∙◌, append_assoc, arith, length-append}
+use Rattle.std.proofs.Common.{◌≡◌, ℕ, ◌+◌, ◌-◌, ◌<◌, ◌≤◌, Bool, true, false, IsTrue, ◌↔◌, get_or, List, [], ◌∷◌, ◌++◌, length}
+use Rattle.std.proofs.Common.{drop, Some, refl, sym, ap, subst, ◌∙◌, append_assoc, arith, length-append}
 use Rattle.std.specs.List.{flat_map}
 use Rattle.std.proofs.lemmas.List.{map-append, drop-drop, drop_at}
 use Rattle.circular_buffer.specs.Buffer.{Buffer, buffer, keep_last}
@@ -25,7 +26,8 @@ pub record IsPacking (timed : Bool) (now : ℕ) (octets left out : List ℕ) (en
   pub entries_counted : length front ≡ entries
   pub media_counted : media_octets front ≡ media
 
-trunk_octets-push : (timed : Bool) (xs : List QueueEntry) (e : QueueEntry) → trunk_octets timed (xs ++ e ∷ []) ≡ trunk_octets timed xs + head_len timed + length e.media
+trunk_octets-push : (timed : Bool) (xs : List QueueEntry) (e : QueueEntry) → trunk_octets timed (xs ++ e ∷ []) ≡ trunk_octets
+    timed xs + head_len timed + length e.media
 trunk_octets-push timed [] e = omega arith
 trunk_octets-push timed (x ∷ xs) e = omega (arith, trunk_octets-push timed xs e)
 
@@ -34,24 +36,38 @@ trunk_octets-bound timed [] = omega arith
 trunk_octets-bound true (x ∷ xs) = omega (arith, trunk_octets-bound true xs)
 trunk_octets-bound false (x ∷ xs) = omega (arith, trunk_octets-bound false xs)
 
-trunk_of-push : (timed : Bool) (now : ℕ) (xs : List QueueEntry) (e : QueueEntry) → with_entry (trunk_of timed now xs) (trunk_entry (is_timed (trunk_of timed now xs).command_data) e) ≡ trunk_of timed now (xs ++ e ∷ [])
-trunk_of-push true now xs e = λ i. record { command_data = 1; timestamp = (trunk_of true now xs).timestamp; entries = (sym (map-append (trunk_entry true) xs (e ∷ []))) i }
-trunk_of-push false now xs e = λ i. record { command_data = 0; timestamp = (trunk_of false now xs).timestamp; entries = (sym (map-append (trunk_entry false) xs (e ∷ []))) i }
+trunk_of-push : (timed : Bool) (now : ℕ) (xs : List QueueEntry) (e : QueueEntry)
+    → with_entry (trunk_of timed now xs) (trunk_entry (is_timed (trunk_of timed now xs).command_data) e) ≡ trunk_of timed now
+    (xs ++ e ∷ [])
+trunk_of-push true now xs e = λ i. record {
+  command_data = 1;
+  timestamp = (trunk_of true now xs).timestamp;
+  entries = (sym (map-append (trunk_entry true) xs (e ∷ []))) i;
+}
+trunk_of-push false now xs e = λ i. record {
+  command_data = 0;
+  timestamp = (trunk_of false now xs).timestamp;
+  entries = (sym (map-append (trunk_entry false) xs (e ∷ []))) i;
+}
 
 is_timed-trunk_of : (timed : Bool) (now : ℕ) (xs : List QueueEntry) → is_timed (trunk_of timed now xs).command_data ≡ timed
 is_timed-trunk_of true now xs = refl
 is_timed-trunk_of false now xs = refl
 
-timed_is : (timed : Bool) (now : ℕ) (xs : List QueueEntry) (out : List ℕ) → SpellsTrunk out (trunk_of timed now xs) → is_timed (get_or out 3 0) ≡ timed
+timed_is : (timed : Bool) (now : ℕ) (xs : List QueueEntry) (out : List ℕ) → SpellsTrunk out (trunk_of timed now xs)
+    → is_timed (get_or out 3 0) ≡ timed
 timed_is timed now xs out s = ap (λ (b : List ℕ). is_timed (get_or b 3 0)) s.whole ∙ is_timed-trunk_of timed now xs
 
 -- at most as many entries and octets of media are packed as the frame has octets
-pub IsPacking-bound : (timed : Bool) (now : ℕ) (octets left out : List ℕ) (entries media : ℕ) → IsPacking timed now octets left out entries media → entries + media ≤ 1400
+pub IsPacking-bound : (timed : Bool) (now : ℕ) (octets left out : List ℕ) (entries media : ℕ)
+    → IsPacking timed now octets left out entries media → entries + media ≤ 1400
 IsPacking-bound timed now octets left out entries media p =
     omega (arith, trunk_octets-bound timed p.front, p.fits, p.entries_counted, p.media_counted)
 
-pub IsPacking-more : (timed : Bool) (now : ℕ) (octets left rest out new : List ℕ) (entries media len : ℕ) → IsPacking timed now octets left out entries media
-    → AppendsFront (is_timed (get_or out 3 0)) out new left len rest → IsPacking timed now octets rest new (entries + 1) (media + len)
+pub IsPacking-more : (timed : Bool) (now : ℕ) (octets left rest out new : List ℕ) (entries media len : ℕ)
+    → IsPacking timed now octets left out entries media
+    → AppendsFront (is_timed (get_or out 3 0)) out new left len rest → IsPacking timed now octets rest new (entries + 1)
+    (media + len)
 IsPacking-more timed now octets left rest out new entries media len p a =
     let more = items_of-more stored IsStored first_stored format left rest a.entry a.first p.left_spelled in
     let joined : left ≡ stored a.entry ++ rest =
@@ -59,16 +75,20 @@ IsPacking-more timed now octets left rest out new entries media len p a =
     let longer : length left ≡ length (stored a.entry) + length rest = ap length joined ∙ length-append (stored a.entry) rest in
     let timed_same = timed_is timed now p.front out p.spelled in
     let head : head_len (is_timed (get_or out 3 0)) ≡ head_len timed = ap head_len timed_same in
-    let size : length new ≡ trunk_octets timed (p.front ++ a.entry ∷ []) = omega (arith, a.size, head, p.size, trunk_octets-push timed p.front a.entry) in
-    let place : length octets - length rest ≡ (length octets - length left) + length (stored a.entry) = omega (arith, longer, p.within) in
+    let size : length new ≡ trunk_octets timed (p.front ++ a.entry ∷ []) =
+    omega (arith, a.size, head, p.size, trunk_octets-push timed p.front a.entry) in
+    let place : length octets - length rest ≡ (length octets - length left) + length (stored a.entry) =
+    omega (arith, longer, p.within) in
     record {
       front = p.front ++ a.entry ∷ [];
-      whole = p.whole ∙ ap (λ (q : List QueueEntry). p.front ++ q) more.0 ∙ sym (append_assoc p.front (a.entry ∷ []) (queue_in rest));
+      whole = p.whole ∙ ap (λ (q : List QueueEntry). p.front ++ q) more.0
+          ∙ sym (append_assoc p.front (a.entry ∷ []) (queue_in rest));
       back = ap (λ (n : ℕ). drop n octets) place ∙ sym (drop-drop (length (stored a.entry)) (length octets - length left) octets)
           ∙ ap (drop (length (stored a.entry))) (p.back ∙ joined) ∙ drop_at (stored a.entry) rest (length (stored a.entry)) refl;
       within = omega (arith, longer, p.within);
       left_spelled = more.1;
-      spelled = subst (SpellsTrunk new) (trunk_of-push timed now p.front a.entry) (a.spelled (trunk_of timed now p.front) p.spelled);
+      spelled = subst (SpellsTrunk new) (trunk_of-push timed now p.front a.entry) (a.spelled (trunk_of timed now p.front)
+          p.spelled);
       size = size;
       fits = omega (arith, size, a.fits);
       entries_counted = length-append p.front (a.entry ∷ []) ∙ ap (λ (n : ℕ). n + 1) p.entries_counted;
@@ -77,22 +97,39 @@ IsPacking-more timed now octets left rest out new entries media len p a =
 
 -- the entry at the front, if there is one, doesn't fit
 abbrev pub FrontTooLong : List ℕ → List ℕ → Type 0
-FrontTooLong out left = (e : QueueEntry) (rest : List ℕ) → first_stored left ≡ Some (e, rest) → 1400 < length out + head_len (is_timed (get_or out 3 0)) + length e.media
+FrontTooLong out left = (e : QueueEntry) (rest : List ℕ) → first_stored left ≡ Some (e, rest)
+    → 1400 < length out + head_len (is_timed (get_or out 3 0)) + length e.media
 
-front_is : (left : List ℕ) (e : QueueEntry) (rest : List QueueEntry) → SpellsItems stored IsStored left (e ∷ rest) → first_stored left ≡ Some (e, flat_map stored rest)
+front_is : (left : List ℕ) (e : QueueEntry) (rest : List QueueEntry) → SpellsItems stored IsStored left (e ∷ rest)
+    → first_stored left ≡ Some (e, flat_map stored rest)
 front_is left e rest s = ap first_stored s.whole ∙ format.again e (flat_map stored rest) s.each.0
 
 -- the first entry always fits
-first_fits : (timed : Bool) (now : ℕ) (left out : List ℕ) (queue : List QueueEntry) → SpellsItems stored IsStored left queue → SpellsTrunk out (trunk_of timed now [])
+first_fits : (timed : Bool) (now : ℕ) (left out : List ℕ) (queue : List QueueEntry) → SpellsItems stored IsStored left queue
+    → SpellsTrunk out (trunk_of timed now [])
     → length out ≡ 8 → FrontTooLong out left → queue ≡ []
 first_fits timed now left out [] s spelled size long = refl
 first_fits true now left out (e ∷ es) s spelled size long =
-    absurd (omega (arith, long e (flat_map stored es) (front_is left e es s), size, ap head_len (timed_is true now [] out spelled), s.each.0.media))
+    absurd (omega (
+      arith,
+      long e (flat_map stored es) (front_is left e es s),
+      size,
+      ap head_len (timed_is true now [] out spelled),
+      s.each.0.media,
+    ))
 first_fits false now left out (e ∷ es) s spelled size long =
-    absurd (omega (arith, long e (flat_map stored es) (front_is left e es s), size, ap head_len (timed_is false now [] out spelled), s.each.0.media))
+    absurd (omega (
+      arith,
+      long e (flat_map stored es) (front_is left e es s),
+      size,
+      ap head_len (timed_is false now [] out spelled),
+      s.each.0.media,
+    ))
 
-some_front : (timed : Bool) (now : ℕ) (queue : List QueueEntry) (left out : List ℕ) (front : List QueueEntry) → 0 < length queue → queue ≡ front ++ queue_in left
-    → SpellsItems stored IsStored left (queue_in left) → SpellsTrunk out (trunk_of timed now front) → length out ≡ trunk_octets timed front → FrontTooLong out left → 0 < length front
+some_front : (timed : Bool) (now : ℕ) (queue : List QueueEntry) (left out : List ℕ) (front : List QueueEntry) → 0 < length queue
+    → queue ≡ front ++ queue_in left
+    → SpellsItems stored IsStored left (queue_in left) → SpellsTrunk out (trunk_of timed now front)
+    → length out ≡ trunk_octets timed front → FrontTooLong out left → 0 < length front
 some_front timed now queue left out (x ∷ xs) more whole s spelled size long = omega arith
 some_front timed now queue left out [] more whole s spelled size long =
     absurd (omega (arith, more, ap length (whole ∙ first_fits timed now left out (queue_in left) s spelled size long)))
@@ -105,7 +142,8 @@ pub record IsPacked (timed : Bool) (now : ℕ) (old : List QueueEntry) (kept out
   pub media_counted : media_octets old ≡ media + media_octets (queue_in kept)
   pub some : 0 < length old → 0 < entries
 
-packed : (timed : Bool) (now : ℕ) (octets left out : List ℕ) (entries media : ℕ) → IsPacking timed now octets left out entries media → SpellsItems stored IsStored octets (queue_in octets)
+packed : (timed : Bool) (now : ℕ) (octets left out : List ℕ) (entries media : ℕ) → IsPacking timed now octets left out entries
+    media → SpellsItems stored IsStored octets (queue_in octets)
     → FrontTooLong out left → IsPacked timed now (queue_in octets) left out entries media
 packed timed now octets left out entries media p s long = record {
   packs = record {
@@ -116,16 +154,27 @@ packed timed now octets left out entries media p s long = record {
     fits = p.fits;
     longest = λ e rest next.
         let found = front_is left e rest (subst (SpellsItems stored IsStored left) next p.left_spelled) in
-        omega (arith, long e (flat_map stored rest) found, p.size, trunk_octets-push timed p.front e, ap head_len (timed_is timed now p.front out p.spelled));
+        omega (
+          arith,
+          long e (flat_map stored rest) found,
+          p.size,
+          trunk_octets-push timed p.front e,
+          ap head_len (timed_is timed now p.front out p.spelled),
+        );
   };
   kept_spelled = p.left_spelled;
-  entries_counted = ap length p.whole ∙ length-append p.front (queue_in left) ∙ ap (λ (n : ℕ). n + length (queue_in left)) p.entries_counted;
-  media_counted = ap media_octets p.whole ∙ media_octets-append p.front (queue_in left) ∙ ap (λ (n : ℕ). n + media_octets (queue_in left)) p.media_counted;
-  some = λ more. subst (λ (n : ℕ). 0 < n) p.entries_counted (some_front timed now (queue_in octets) left out p.front more p.whole p.left_spelled p.spelled p.size long);
+  entries_counted = ap length p.whole ∙ length-append p.front (queue_in left) ∙ ap (λ (n : ℕ). n + length (queue_in left))
+      p.entries_counted;
+  media_counted = ap media_octets p.whole ∙ media_octets-append p.front (queue_in left)
+      ∙ ap (λ (n : ℕ). n + media_octets (queue_in left)) p.media_counted;
+  some = λ more. subst (λ (n : ℕ). 0 < n) p.entries_counted (some_front timed now (queue_in octets) left out p.front more p.whole
+      p.left_spelled p.spelled p.size long);
 }
 
-pub IsPacking-packed : (timed : Bool) (now : ℕ) (items octets left out new : List ℕ) (entries media len capacity : ℕ) (old : List QueueEntry) (ring : Buffer ℕ) → IsPacking timed now octets left out entries media
-    → octets ≡ items → queue_in items ≡ old → SpellsItems stored IsStored items (queue_in items) → FrontTooLong out left → new ≡ out → len ≡ length left → ring ≡ buffer (keep_last len items) capacity
+pub IsPacking-packed : (timed : Bool) (now : ℕ) (items octets left out new : List ℕ) (entries media len capacity : ℕ)
+    (old : List QueueEntry) (ring : Buffer ℕ) → IsPacking timed now octets left out entries media
+    → octets ≡ items → queue_in items ≡ old → SpellsItems stored IsStored items (queue_in items) → FrontTooLong out left
+    → new ≡ out → len ≡ length left → ring ≡ buffer (keep_last len items) capacity
     → IsPacked timed now old ring.items new entries media
 IsPacking-packed timed now items octets left out new entries media len capacity old ring p joined was s long same e kept =
     let here = subst (λ (bytes : List ℕ). IsPacking timed now bytes left out entries media) joined p in
@@ -136,7 +185,8 @@ IsPacking-packed timed now items octets left out new entries media len capacity 
     (subst (λ (bytes : List ℕ). IsPacked timed now (queue_in items) left bytes entries media) (sym same) all))
 
 -- the ring that is left holds what wasn't packed
-pub IsPacked-holds : (timed : Bool) (now : ℕ) (items kept out : List ℕ) (queued_entries queued_media entries media : ℕ) (old : List QueueEntry) → HoldsQueue items queued_entries queued_media → queue_in items ≡ old
+pub IsPacked-holds : (timed : Bool) (now : ℕ) (items kept out : List ℕ) (queued_entries queued_media entries media : ℕ)
+    (old : List QueueEntry) → HoldsQueue items queued_entries queued_media → queue_in items ≡ old
     → IsPacked timed now old kept out entries media → HoldsQueue kept (queued_entries - entries) (queued_media - media)
 IsPacked-holds timed now items kept out queued_entries queued_media entries media old h was p = record {
   spelled = p.kept_spelled;
@@ -147,10 +197,17 @@ IsPacked-holds timed now items kept out queued_entries queued_media entries medi
 }
 
 -- fewer octets are left with each entry
-pub AppendsFront-shorter : (timed : Bool) (old new left rest : List ℕ) (len : ℕ) → SpellsItems stored IsStored left (queue_in left) → AppendsFront timed old new left len rest → length rest < length left
+pub AppendsFront-shorter : (timed : Bool) (old new left rest : List ℕ) (len : ℕ)
+    → SpellsItems stored IsStored left (queue_in left) → AppendsFront timed old new left len rest → length rest < length left
 AppendsFront-shorter timed old new left rest len s a =
     let more = items_of-more stored IsStored first_stored format left rest a.entry a.first s in
-    omega (arith, ap length (s.whole ∙ ap (flat_map stored) more.0), length-append (stored a.entry) (flat_map stored (queue_in rest)), ap length more.1.whole, format.some a.entry)
+    omega (
+      arith,
+      ap length (s.whole ∙ ap (flat_map stored) more.0),
+      length-append (stored a.entry) (flat_map stored (queue_in rest)),
+      ap length more.1.whole,
+      format.some a.entry,
+    )
 
 -- a queue that isn't empty has an entry
 pub some_unless : (empty : Bool) (queue : List QueueEntry) → (IsTrue empty ↔ (queue ≡ [])) → empty ≡ false → 0 < length queue

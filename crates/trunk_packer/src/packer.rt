@@ -6,11 +6,13 @@ ghost use Rattle.trunk_packer.specs.Queue.{QueueEntry, media_octets, HasRoom, Is
 ghost use Rattle.trunk_packer.specs.Queue.{has_call, trunk_octets, trunk_spelling};
 ghost use Rattle.trunk_packer.specs.Stored.{stored, IsStored, first_stored};
 ghost use Rattle.trunk_packer.specs.Packing.{AppendsFront};
+ghost use Rattle.memory_requests.specs.Refused.{WasRefused};
 
 use crate::pieces::Pieces;
 use crate::stored::split_entry;
 use circular_buffer::HeapCircularBuffer;
 use iax_frames::{CallNumber, Out, write_trunk};
+use memory_requests::ring_with_capacity;
 use std::alloc::{AllocError, Global};
 use std::marker::Model;
 
@@ -60,10 +62,11 @@ impl Packer {
     /// Returns an empty queue, with room for 256 entries and 16,384 octets of media. Returns `Err` only if memory was
     /// refused.
     pub fn new(alloc: Global) -> Result<Packer, AllocError>
-        ensures { IfOk result (λ packer. packer ≡ []) }
+        ensures empty { IfOk result (λ packer. packer ≡ []) }
+        ensures no_memory { OnErr result WasRefused }
     {
         Ok(Packer {
-            octets: HeapCircularBuffer::with_capacity(alloc, CAPACITY)?,
+            octets: ring_with_capacity(alloc, CAPACITY)?,
             entries: 0,
             media: 0,
         })

@@ -1,5 +1,6 @@
 //! The entries of a queue in a ring of octets.
-ghost use Rattle.std.specs.Prelude.{◌≡◌, ◌==◌, ◌+◌, ◌<◌, ◌≤◌, ◌^◌, ◌↔◌, IsOk, OnOk, OnErr, IfNone, IfSome, length, slice_index, Some};
+ghost use Rattle.std.specs.Prelude.{◌≡◌, ◌==◌, ◌+◌, ◌<◌, ◌≤◌, ◌^◌, ◌↔◌, IsOk, OnOk, OnErr, IfNone, IfSome, length, slice_index};
+ghost use Rattle.std.specs.Prelude.{Some};
 ghost use Rattle.std.specs.Prelude.{None};
 ghost use Rattle.iax_frames.specs.TrunkFrame.{TrunkFrame, SpellsTrunk, IsTrunk, with_entry, head_len, is_timed};
 ghost use Rattle.trunk_packer.specs.Queue.{trunk_entry};

@@ -1,9 +1,11 @@
 -- Laws of sets of sockets.
-use Rattle.std.proofs.Common.{◌≡◌, ◌≢◌, ◌<◌, ◌≤◌, ◌↔◌, ℕ, ◌+◌, ◌-◌, ◌*◌, ◌/◌, ◌%◌, ◌^◌, sym, refl, ◌∙◌, ap, inl, inr, ◌⊎◌, arith, bit_and, min, w64}
+use Rattle.std.proofs.Common.{◌≡◌, ◌≢◌, ◌<◌, ◌≤◌, ◌↔◌, ℕ, ◌+◌, ◌-◌, ◌*◌, ◌/◌, ◌%◌, ◌^◌, sym, refl, ◌∙◌, ap, inl, inr, ◌⊎◌, arith}
+use Rattle.std.proofs.Common.{bit_and, min, w64}
 use Rattle.std.specs.Int.{bit_at, trailing_zeros, bit_not}
 use Rattle.std.proofs.lemmas.Bool.{cases_lt}
 use Rattle.std.proofs.lemmas.Nat.{and_le_l}
-use Rattle.std.proofs.lemmas.Nat.Bits.{bit_at_and, bit_at-lt, bit_at-zero, bit_at_mask_below, bit_at_mask_inside, bit_at-trailing_zeros, bit_at_not, ones_shl, same_from_bits_below}
+use Rattle.std.proofs.lemmas.Nat.Bits.{bit_at_and, bit_at-lt, bit_at-zero, bit_at_mask_below, bit_at_mask_inside}
+use Rattle.std.proofs.lemmas.Nat.Bits.{bit_at-trailing_zeros, bit_at_not, ones_shl, same_from_bits_below}
 use Rattle.udp_wires.specs.SocketSet.{steps_from}
 
 -- ---- one place
@@ -49,7 +51,8 @@ pub record Nearest (bits from place : ℕ) : Type 0 where
   pub first : (other : ℕ) → other < 64 → bit_at bits other ≡ 1 → steps_from from place ≤ steps_from from other
 
 -- some are there from that place on: it is the lowest of these
-pub nearest_high : (bits from : ℕ) → from < 64 → bits < 2 ^ 64 → 0 < high bits from → Nearest bits from (trailing_zeros w64 (high bits from))
+pub nearest_high : (bits from : ℕ) → from < 64 → bits < 2 ^ 64 → 0 < high bits from
+    → Nearest bits from (trailing_zeros w64 (high bits from))
 nearest_high bits from within fits some =
     let place = trailing_zeros w64 (high bits from) in
     let lower : high bits from ≤ bits = and_le_l bits ((2 ^ 64 - 1) * 2 ^ from % 2 ^ 64) in
@@ -73,13 +76,15 @@ nearest_high bits from within fits some =
       | inl low ↦ omega (arith, steps_high from place high below, steps_low from other low within)
       | inr not_low ↦
           elim (cases_lt other place) [
-            | inl before ↦ absurd (zero_one (sym (none other before) ∙ high_high bits from within other not_low within_other ∙ there))
+            | inl before ↦ absurd (zero_one (sym (none other before) ∙ high_high bits from within other not_low within_other
+                ∙ there))
             | inr behind ↦ omega (arith, steps_high from place high below, steps_high from other not_low within_other)
           ]
     ]
 
 -- none is there from that place on: it is the lowest of all
-pub nearest_low : (bits from : ℕ) → from < 64 → bits < 2 ^ 64 → high bits from ≡ 0 → 0 < bits → Nearest bits from (trailing_zeros w64 bits)
+pub nearest_low : (bits from : ℕ) → from < 64 → bits < 2 ^ 64 → high bits from ≡ 0 → 0 < bits
+    → Nearest bits from (trailing_zeros w64 bits)
 nearest_low bits from within fits none some =
     let place = trailing_zeros w64 bits in
     let lowest = bit_at-trailing_zeros w64 bits some fits in
@@ -99,7 +104,8 @@ nearest_low bits from within fits none some =
     all_below other below there = elim (cases_lt other from) [
       | inl low ↦ low
       | inr not_low ↦
-          absurd (zero_one (sym (bit_at-zero other) ∙ ap (λ n. bit_at n other) (sym none) ∙ high_high bits from within other not_low below ∙ there))
+          absurd (zero_one (sym (bit_at-zero other) ∙ ap (λ n. bit_at n other) (sym none) ∙ high_high bits from within other
+          not_low below ∙ there))
     ]
 
 -- ---- the first so many places
@@ -126,7 +132,8 @@ pub none_of_zero : (bits : ℕ) → bits ≡ 0 → (place : ℕ) → place < 64 
 none_of_zero bits zero place below there = zero_one (sym (bit_at-zero place) ∙ ap (λ n. bit_at n place) (sym zero) ∙ there)
 
 pub zero_of_none : (bits : ℕ) → bits < 2 ^ 64 → ((place : ℕ) → place < 64 → bit_at bits place ≡ 1 → ⊥) → bits ≡ 0
-zero_of_none bits fits none = same_from_bits_below 64 bits 0 fits (omega arith) (λ place below. go place (none place below) ∙ sym (bit_at-zero place))
+zero_of_none bits fits none = same_from_bits_below 64 bits 0 fits (omega arith) (λ place below. go place (none place below)
+    ∙ sym (bit_at-zero place))
   where
     go : (place : ℕ) → (bit_at bits place ≡ 1 → ⊥) → bit_at bits place ≡ 0
     go place absent =

@@ -53,7 +53,8 @@ module _ {X : Type 0} (token : X → ℕ) (event : X) (rest : List X) (place : �
       back (inr told) = of_event (any_down (λ e. token e ≡ place) event rest told)
 
   -- an event of no place
-  pub told_of_none : (set : SocketSet) → place < 64 → 64 ≤ token event → (Has set place ⊎ Tells rest) ↔ (Has set place ⊎ Tells (event ∷ rest))
+  pub told_of_none : (set : SocketSet) → place < 64 → 64 ≤ token event → (Has set place ⊎ Tells rest)
+      ↔ (Has set place ⊎ Tells (event ∷ rest))
   told_of_none set within past = (forth, back)
     where
       forth : Has set place ⊎ Tells rest → Has set place ⊎ Tells (event ∷ rest)

@@ -64,7 +64,8 @@ fn pause_of(empty: bool, short: bool, ms: u64) -> u64
 }
 
 impl MioWire {
-    ghost use Rattle.udp_wires.specs.MioWire.{came_of, went_of, sent_of, given_of, given_to_of, failures_of, peers_of, waits_short};
+    ghost use Rattle.udp_wires.specs.MioWire.{came_of, went_of, sent_of, given_of, given_to_of, failures_of, peers_of};
+    ghost use Rattle.udp_wires.specs.MioWire.{waits_short};
 
     /// Returns a UDP socket that is bound to this IPv4 endpoint and may send to these peers. Nothing was given to it yet,
     /// and no call failed.
@@ -84,8 +85,10 @@ impl MioWire {
     /// another worker may have filled outboxes of its peers.
     ///
     /// Returns `Memory` if a request for memory was refused. Returns `Bind` if the system gives no socket or no poll,
-    /// doesn't set the option, doesn't bind the socket to that endpoint, or doesn't take `SO_REUSEPORT` back. At an `Err`
-    /// the list is dropped.
+    /// doesn't set the option, doesn't bind the socket to that endpoint, or doesn't take `SO_REUSEPORT` back. Requests and
+    /// calls of the system come in this order, and the first that is refused counts: memory for the counts of the peers,
+    /// the poll, memory for its events, the worker's own socket, memory for the list of the peers' sockets, these, and
+    /// `SO_REUSEPORT` taken back. At an `Err` the list is dropped.
     pub fn bind<N: Net>(
         rt: &N,
         alloc: Global,

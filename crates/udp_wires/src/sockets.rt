@@ -146,7 +146,8 @@ impl Sockets {
     /// Returns the sockets at this endpoint for these peers, with their poll. No socket was read yet.
     ///
     /// Returns `Memory` if a request for memory was refused. Returns `Bind` if the system gives no own socket or no poll,
-    /// doesn't set an option of it, or doesn't bind it to that endpoint. A link that the system doesn't give is missing.
+    /// doesn't set an option of it, or doesn't bind it to that endpoint. The first that is refused counts, in the order of
+    /// the body: the poll, its events, the own socket, the list of links. A link that the system doesn't give is missing.
     pub(crate) fn bound<N: Net>(
         rt: &N,
         alloc: Global,

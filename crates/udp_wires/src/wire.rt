@@ -1,5 +1,6 @@
 //! A socket for datagrams, as a trait.
-ghost use Rattle.std.specs.Prelude.{◌≡◌, ◌≢◌, ◌+◌, ◌≤◌, ◌^◌, ℕ, List, [], ◌∷◌, ◌++◌, length, Contains, IfOk, IfSome, is_ok, if◌then◌else◌};
+ghost use Rattle.std.specs.Prelude.{◌≡◌, ◌≢◌, ◌+◌, ◌≤◌, ◌^◌, ℕ, List, [], ◌∷◌, ◌++◌, length, Contains, IfOk, IfSome, is_ok};
+ghost use Rattle.std.specs.Prelude.{if◌then◌else◌};
 ghost use Rattle.iax_frames.specs.Datagram.{IsFrame};
 ghost use Rattle.peer_plan.specs.declared.endpoint.Endpoint.{Endpoint};
 ghost use Rattle.udp_wires.specs.Counts.{RisesBy};
@@ -13,7 +14,8 @@ pub struct WireFault;
 
 /// A socket for datagrams. Only `wait` waits.
 ///
-/// Proofs know the datagrams that came from it, those that it was given, and those that it sent, in order (`Traffic`). It counts, modulo 2^64,
+/// Proofs know the datagrams that came from it, those that it was given, and those that it sent, in order (`Traffic`). It counts,
+/// modulo 2^64,
 /// the datagrams given to it, altogether and for each endpoint, and its failed calls.
 pub trait Wire {
     /// The datagrams that its calls of `receive` gave, in order, each with its sender.

@@ -1,5 +1,6 @@
 -- The places of a datagram's call: what each has of the signals that wait, and of the notes before it.
-use Rattle.std.proofs.Common.{◌≡◌, ℕ, Bool, true, false, List, [], ◌∷◌, ◌++◌, Option, None, Some, Ok, Err, refl, sym, ap, subst, ◌∙◌, append_assoc, append-nil}
+use Rattle.std.proofs.Common.{◌≡◌, ℕ, Bool, true, false, List, [], ◌∷◌, ◌++◌, Option, None, Some, Ok, Err, refl, sym, ap, subst}
+use Rattle.std.proofs.Common.{◌∙◌, append_assoc, append-nil}
 use Rattle.std.proofs.lemmas.Bool.{cond_both}
 use Rattle.std.specs.Prelude.{Result}
 use Rattle.call_book.specs.Book.{is_same}
@@ -10,17 +11,18 @@ use Rattle.call_signals.specs.declared.cause.Cause.{Cause}
 use Rattle.call_signals.specs.declared.signal.MediaSpan.{MediaSpan}
 use Rattle.call_signals.specs.declared.signal.Signal.{Signal}
 use Rattle.call_signals.specs.declared.signal.Signal.TheVariants as signals
-use Rattle.call_steps.specs.Work.{Rest, Work, after_look, after_no_room, after_status, at, finish, go_on, go_on_from, next_at, passed_on, place_for, told_at}
-use Rattle.call_steps.specs.declared.act.Act.{Act}
-use Rattle.call_steps.specs.declared.act.Act.TheVariants as acts
-use Rattle.call_steps.specs.declared.need.Need.TheVariants as needs
-use Rattle.call_steps.specs.declared.need.Route.TheVariants as routes
-use Rattle.call_steps.specs.declared.place.Place.{Place}
-use Rattle.call_steps.specs.declared.place.Place.TheVariants as places
-use Rattle.call_steps.specs.declared.reply.Reply.{Reply}
-use Rattle.call_steps.specs.declared.reply.Reply.TheVariants as replies
-use Rattle.noted_steps.specs.declared.made.Made.{Made}
-use Rattle.noted_steps.specs.declared.made.Made.TheVariants as mades
+use Rattle.call_control.specs.Work.{Rest, Work, after_look, after_no_room, after_status, at, finish, go_on, go_on_from, next_at}
+use Rattle.call_control.specs.Work.{passed_on, place_for, told_at}
+use Rattle.call_control.specs.declared.act.Act.{Act}
+use Rattle.call_control.specs.declared.act.Act.TheVariants as acts
+use Rattle.call_control.specs.declared.need.Need.TheVariants as needs
+use Rattle.call_control.specs.declared.need.Route.TheVariants as routes
+use Rattle.call_control.specs.declared.place.Place.{Place}
+use Rattle.call_control.specs.declared.place.Place.TheVariants as places
+use Rattle.call_control.specs.declared.reply.Reply.{Reply}
+use Rattle.call_control.specs.declared.reply.Reply.TheVariants as replies
+use Rattle.step_log.specs.declared.made.Made.{Made}
+use Rattle.step_log.specs.declared.made.Made.TheVariants as mades
 use Rattle.peer_lock.specs.HandedUp.{HandedUp}
 use Rattle.peer_lock.specs.declared.errors.OrderError.TheVariants as order_errors
 use Rattle.peer_lock.specs.declared.errors.PeerError.{PeerError}

@@ -1,5 +1,6 @@
 -- Each order of media in the notes of a datagram's call passes on what a leg handed up in that call.
-use Rattle.std.proofs.Common.{◌≡◌, ℕ, Bool, true, false, List, [], ◌∷◌, ◌++◌, Option, Some, Ok, Err, refl, sym, ap, subst, ◌∙◌, inl, inr, arith}
+use Rattle.std.proofs.Common.{◌≡◌, ℕ, Bool, true, false, List, [], ◌∷◌, ◌++◌, Option, Some, Ok, Err, refl, sym, ap, subst, ◌∙◌}
+use Rattle.std.proofs.Common.{inl, inr, arith}
 use Rattle.std.specs.List.{AllByRecursion}
 use Rattle.call_book.specs.declared.leg_name.LegName.{LegName}
 use Rattle.call_signals.specs.declared.order.OrderKind.{OrderKind}
@@ -7,28 +8,30 @@ use Rattle.call_signals.specs.declared.order.OrderKind.TheVariants as kinds
 use Rattle.call_signals.specs.declared.signal.MediaSpan.{MediaSpan}
 use Rattle.call_signals.specs.declared.signal.Signal.{Signal}
 use Rattle.call_signals.specs.declared.signal.Signal.TheVariants as signals
-use Rattle.call_steps.specs.Act.{act_kind, act_media}
-use Rattle.call_steps.specs.Work.{Rest, Work, after_told, at, go_on, next_of, of_call, of_datagram, of_hang_up, of_tick, told_at}
-use Rattle.call_steps.specs.WorkState.{WorkState, begun, offer_in}
-use Rattle.call_steps.specs.declared.act.Act.{Act}
-use Rattle.call_steps.specs.declared.act.Act.TheVariants as acts
-use Rattle.call_steps.specs.declared.need.Need.{Need}
-use Rattle.call_steps.specs.declared.need.Need.TheVariants as needs
-use Rattle.call_steps.specs.declared.place.Place.{Place}
-use Rattle.call_steps.specs.declared.place.Place.TheVariants as places
-use Rattle.call_steps.specs.declared.reply.Reply.{Reply}
-use Rattle.call_steps.specs.declared.reply.Reply.TheVariants as replies
+use Rattle.call_control.specs.Act.{act_kind, act_media}
+use Rattle.call_control.specs.Work.{Rest, Work, after_told, at, go_on, next_of, of_call, of_datagram, of_hang_up, of_tick}
+use Rattle.call_control.specs.Work.{told_at}
+use Rattle.call_control.specs.WorkState.{WorkState, begun, offer_in}
+use Rattle.call_control.specs.declared.act.Act.{Act}
+use Rattle.call_control.specs.declared.act.Act.TheVariants as acts
+use Rattle.call_control.specs.declared.need.Need.{Need}
+use Rattle.call_control.specs.declared.need.Need.TheVariants as needs
+use Rattle.call_control.specs.declared.place.Place.{Place}
+use Rattle.call_control.specs.declared.place.Place.TheVariants as places
+use Rattle.call_control.specs.declared.reply.Reply.{Reply}
+use Rattle.call_control.specs.declared.reply.Reply.TheVariants as replies
 use Rattle.exchange_core.specs.Traces.{Call, IsHeard, IsMade, IsTrace, IsUnasked, done_of, octets_of, told}
-use Rattle.noted_steps.specs.Notes.{Noted}
-use Rattle.noted_steps.specs.declared.made.Made.{Made}
-use Rattle.noted_steps.specs.declared.made.Made.TheVariants as mades
+use Rattle.step_log.specs.Notes.{Noted}
+use Rattle.step_log.specs.declared.made.Made.{Made}
+use Rattle.step_log.specs.declared.made.Made.TheVariants as mades
 use Rattle.peer_lock.specs.HandedUp.{HandedUp}
 use Rattle.peer_plan.specs.Plan.{PlanView}
 use Rattle.peer_plan.specs.declared.endpoint.Endpoint.{Endpoint}
 use Rattle.udp_wires.specs.Parcels.{Parcel}
 use Rattle.udp_workers.specs.Carried.{AllCarry, Carries, CarriesAt, IsItsCall, IsNoMedia, PassesOn}
 use Rattle.udp_workers.specs.Intake.{TakesAll, TurnView}
-use Rattle.udp_workers.proofs.CarriedPlaces.{Names, Pends, Signals, Stands, all_left, datagram_place, goes, hands, media_place, names_needed, names_partner, names_reserved, open_place, passed, stays}
+use Rattle.udp_workers.proofs.CarriedPlaces.{Names, Pends, Signals, Stands, all_left, datagram_place, goes, hands, media_place}
+use Rattle.udp_workers.proofs.CarriedPlaces.{names_needed, names_partner, names_reserved, open_place, passed, stays}
 
 -- ---- one step
 
@@ -282,6 +285,9 @@ all_carry plan turn (arrival ∷ before) old new takes = (
   all_carry plan turn before old takes.0 takes.1,
   record {
     away = takes.2.away;
-    heard = λ stays. heard_carries plan arrival.endpoint _ takes.0 new (takes.2.heard stays);
+    heard = elim takes.2.heard [
+      | inl away ↦ inl away
+      | inr heard ↦ inr (heard_carries plan arrival.endpoint _ takes.0 new heard)
+    ];
   },
 )

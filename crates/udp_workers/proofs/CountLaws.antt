@@ -14,19 +14,27 @@ use Rattle.udp_workers.specs.declared.report.TurnReport.{TurnReport}
 
 -- The counts at first, and before and after the datagrams for the peer at a place. Those for the peers from there on were as
 -- they were at first.
-module _ (first before after : Endpoint → ℕ) (ends : List Endpoint) (place n : ℕ) (to : Endpoint) (at : slice_get ends place ≡ Some to) (others : (other : Endpoint) → other ≢ to → after other ≡ before other)
+module _ (first before after : Endpoint → ℕ) (ends : List Endpoint) (place n : ℕ) (to : Endpoint)
+    (at : slice_get ends place ≡ Some to) (others : (other : Endpoint) → other ≢ to → after other ≡ before other)
     (ahead : AllWithin (λ end. before end ≡ first end) ends place (length ends)) (within : place < length ends) where
-  pub each_next : n ≤ 256 → RisesBy (before to) (after to) n → ((end : Endpoint) → RisesByAtMost 256 (first end) (before end)) → (end : Endpoint) → RisesByAtMost 256 (first end) (after end)
+  pub each_next : n ≤ 256 → RisesBy (before to) (after to) n → ((end : Endpoint) → RisesByAtMost 256 (first end) (before end))
+      → (end : Endpoint) → RisesByAtMost 256 (first end) (after end)
   each_next few rises so_far end =
       elim (either_endpoint end to) [
         | inl same ↦
             let here : get_or ends place to ≡ to = get_or_from_slice_get ends place to to at in
             let unchanged : before to ≡ first to = subst (λ e. before e ≡ first e) here (ahead place to (omega arith) within) in
-            subst (λ e. RisesByAtMost 256 (first e) (after e)) (sym same) (n, few, subst (λ count. RisesBy count (after to) n) unchanged rises)
+            subst (λ e. RisesByAtMost 256 (first e) (after e)) (sym same) (
+              n,
+              few,
+              subst (λ count. RisesBy count (after to) n)
+                  unchanged rises,
+            )
         | inr differ ↦ subst (RisesByAtMost 256 (first end)) (sym (others end differ)) (so_far end)
       ]
 
-  pub ahead_next : AllPairs (λ one other. one ≢ other) ends → AllWithin (λ end. after end ≡ first end) ends (place + 1) (length ends)
+  pub ahead_next : AllPairs (λ one other. one ≢ other) ends → AllWithin (λ end. after end ≡ first end) ends (place + 1)
+      (length ends)
   ahead_next apart k d low high =
       let here : get_or ends place d ≡ to = get_or_from_slice_get ends place to d at in
       others (get_or ends k d) (λ same. apart place k d (omega arith) high (here ∙ sym same)) ∙ ahead k d (omega arith) high

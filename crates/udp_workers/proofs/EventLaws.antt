@@ -4,10 +4,11 @@ use Rattle.std.proofs.Math.Logic.{∥∥₁_map}
 use Rattle.std.proofs.lemmas.List.Elements.{All-cons}
 use Rattle.udp_workers.specs.Events.{Tells, counted}
 use Rattle.udp_workers.specs.declared.report.TurnReport.{TurnReport}
-use Rattle.worker_watch.specs.declared.watch.Event.{Event}
+use Rattle.exchange_core.specs.declared.watch.Event.{Event}
 
 -- one more event is reported and counted
-pub tells_more : (told : Event → Type 0) (report new : TurnReport) (event : Event) → told event → new ≡ counted report event → ∥ Tells told report ∥₁ → ∥ Tells told new ∥₁
+pub tells_more : (told : Event → Type 0) (report new : TurnReport) (event : Event) → told event → new ≡ counted report event
+    → ∥ Tells told report ∥₁ → ∥ Tells told new ∥₁
 tells_more told report new event this is before = ∥∥₁_map before (λ tells. record {
   events = event ∷ tells.events;
   each = All-cons told event tells.events this tells.each;

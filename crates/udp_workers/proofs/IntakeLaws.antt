@@ -1,16 +1,19 @@
 -- Laws of the datagrams that a turn takes.
-use Rattle.std.proofs.Common.{◌≡◌, ℕ, suc, ◌+◌, ◌≤◌, ◌⊎◌, inl, inr, Bool, true, false, List, [], ◌∷◌, length, map, Option, None, Some, Result, Ok, Err, Bor, refl, sym, ap, subst, ◌∙◌, arith, length-append, add-zero, zero-add, if◌then◌else◌}
+use Rattle.std.proofs.Common.{◌≡◌, ℕ, suc, ◌+◌, ◌≤◌, ◌⊎◌, inl, inr, Bool, true, false, List, [], ◌∷◌, length, map, Option, None}
+use Rattle.std.proofs.Common.{Some, Result, Ok, Err, Bor, refl, sym, ap, subst, ◌∙◌, arith, length-append, add-zero, zero-add}
+use Rattle.std.proofs.Common.{if◌then◌else◌}
 use Rattle.std.proofs.lemmas.List.{length-map}
 use Rattle.std.proofs.lemmas.List.Sums.{sum_by-cons}
 use Rattle.std.specs.List.{flat_map}
 use Rattle.std.specs.Prelude.{◌++◌, sum_by, IsSome, OnErr, is_err, option_map, option_to_list}
 use Rattle.std.proofs.Common.{append_assoc, append-nil}
 use Rattle.iax_frames.specs.TrunkFrame.{TrunkEntry, TrunkFrame, SpellsTrunk, entry, entry_head, entry_item, trunk_head}
-use Rattle.noted_steps.specs.Notes.{Noted}
+use Rattle.step_log.specs.Notes.{Noted}
 use Rattle.peer_plan.specs.Plan.{PlanView}
 use Rattle.peer_plan.specs.declared.endpoint.Endpoint.{Endpoint}
 use Rattle.udp_wires.specs.Parcels.{Parcel}
-use Rattle.udp_workers.specs.Intake.{BeginsWith, Fills, IsLoaded, IsTaken, IsWithin, Leaves, TakesAll, TakesIn, TakesWhatCame, TurnView, Weigh, fits, in_order, media_octets, no_weight, plus, with_weight}
+use Rattle.udp_workers.specs.Intake.{BeginsWith, Fills, IsLoaded, IsTaken, IsWithin, Leaves, TakesAll, TakesIn, TakesWhatCame}
+use Rattle.udp_workers.specs.Intake.{TurnView, Weigh, fits, in_order, media_octets, no_weight, plus, with_weight}
 use Rattle.udp_workers.specs.declared.intake.Intake.{Intake}
 use Rattle.udp_workers.specs.declared.intake.Intake.TheVariants.{Whole, Bounded}
 use Rattle.udp_workers.specs.declared.intake.Weight.{Weight}
@@ -21,7 +24,8 @@ head_long : (e : TrunkEntry) (timestamp : Option ℕ) → 1 ≤ length (entry_he
 head_long e None = omega arith
 head_long e (Some timestamp) = omega arith
 
-one_more : (head media n m all sum whole : ℕ) → 1 ≤ head → n + m ≤ all → sum ≡ media + m → whole ≡ head + media + all → suc n + sum ≤ whole
+one_more : (head media n m all sum whole : ℕ) → 1 ≤ head → n + m ≤ all → sum ≡ media + m → whole ≡ head + media + all
+    → suc n + sum ≤ whole
 one_more head media n m all sum whole some rest is long = omega arith
 
 -- each entry is an octet and its media at least
@@ -30,20 +34,25 @@ entries_short [] = omega arith
 entries_short (e ∷ rest) =
     let some = head_long e e.timestamp in
     let later = entries_short rest in
-    let whole = length-append (entry e) (flat_map entry rest) ∙ ap (λ n. n + length (flat_map entry rest)) (length-append (entry_head e e.timestamp) e.media) in
-    one_more (length (entry_head e e.timestamp)) (length e.media) (length rest) (media_octets rest) (length (flat_map entry rest)) _ _
+    let whole = length-append (entry e) (flat_map entry rest) ∙ ap (λ n. n + length (flat_map entry rest))
+    (length-append (entry_head e e.timestamp) e.media) in
+    one_more (length (entry_head e e.timestamp)) (length e.media) (length rest) (media_octets rest) (length (flat_map entry rest))
+    _ _
     some later (sum_by-cons (λ (e : TrunkEntry). length e.media) e rest) whole
 
 -- a trunk frame has no more entries, and no more octets of media, than octets
-pub trunk_short : (octets : List ℕ) (t : TrunkFrame) → SpellsTrunk octets t → length t.entries + media_octets t.entries ≤ length octets
+pub trunk_short : (octets : List ℕ) (t : TrunkFrame) → SpellsTrunk octets t → length t.entries + media_octets t.entries
+    ≤ length octets
 trunk_short octets t s =
     in_whole (length octets) (length s.rest) (length (flat_map entry t.entries)) (length t.entries + media_octets t.entries)
-    (ap length s.whole ∙ length-append (trunk_head t.command_data t.timestamp) s.rest) (ap length s.entries.whole) (entries_short t.entries)
+    (ap length s.whole ∙ length-append (trunk_head t.command_data t.timestamp) s.rest) (ap length s.entries.whole)
+    (entries_short t.entries)
   where
     in_whole : (whole rest all n : ℕ) → whole ≡ 8 + rest → rest ≡ all → n ≤ all → n ≤ whole
     in_whole whole rest all n is same few = omega arith
 
-items_octets : (entries : List TrunkEntry) → media_octets entries ≡ sum_by (λ (item : ℕ × Option ℕ × List ℕ). length item.2) (map entry_item entries)
+items_octets : (entries : List TrunkEntry) → media_octets entries ≡ sum_by (λ (item : ℕ × Option ℕ × List ℕ). length item.2)
+    (map entry_item entries)
 items_octets [] = refl
 items_octets (e ∷ rest) =
     sum_by-cons (λ (e : TrunkEntry). length e.media) e rest ∙ ap (λ n. length e.media + n) (items_octets rest)
@@ -73,7 +82,8 @@ IsLoad Bounded (arrival ∷ before) (Some weight) = Weigh (arrival ∷ before) w
 
 -- Datagrams were taken since the turn began, and this is their weight. The datagram that was left to the turn was the first
 -- of them; if there is none, it is still there.
-pub record TakesSoFar (intake : Intake) (plan : PlanView) (turn : TurnView) (was here : Option Parcel) (load : Option Weight) (count counted now_counted : ℕ)
+pub record TakesSoFar (intake : Intake) (plan : PlanView) (turn : TurnView) (was here : Option Parcel) (load : Option Weight)
+    (count counted now_counted : ℕ)
     (old new : Noted) (before after : List Parcel) : Type 0 where
   pub arrivals : List Parcel
   pub counts : length arrivals ≡ count
@@ -91,14 +101,16 @@ fills_still was before after same = record { since = []; came = same; filled = a
 pub fills_not : (was : Option Parcel) (wire : List Parcel) → Fills was was wire wire
 fills_not was wire = fills_still was wire wire (sym (append-nil wire))
 
-pub fills_one : (arrival : Parcel) (before after : List Parcel) → after ≡ before ++ arrival ∷ [] → Fills None (Some arrival) before after
+pub fills_one : (arrival : Parcel) (before after : List Parcel) → after ≡ before ++ arrival ∷ []
+    → Fills None (Some arrival) before after
 fills_one arrival before after one = record { since = arrival ∷ []; came = one; filled = refl }
 
 what_came_none : (was : Option Parcel) (wire : List Parcel) → TakesWhatCame was was [] wire wire
 what_came_none was wire = record { since = []; came = sym (append-nil wire); whole = append-nil (option_to_list was) }
 
 -- a datagram more came, or none
-pub what_came_more : (was here next : Option Parcel) (arrivals first before after : List Parcel) → TakesWhatCame was here arrivals first before → Fills here next before after
+pub what_came_more : (was here next : Option Parcel) (arrivals first before after : List Parcel)
+    → TakesWhatCame was here arrivals first before → Fills here next before after
     → TakesWhatCame was next arrivals first after
 what_came_more was here next arrivals first before after came fills = record {
   since = came.since ++ fills.since;
@@ -111,7 +123,8 @@ what_came_more was here next arrivals first before after came fills = record {
 }
 
 -- it was taken
-what_came_taken : (was : Option Parcel) (arrival : Parcel) (arrivals first now : List Parcel) → TakesWhatCame was (Some arrival) arrivals first now
+what_came_taken : (was : Option Parcel) (arrival : Parcel) (arrivals first now : List Parcel)
+    → TakesWhatCame was (Some arrival) arrivals first now
     → TakesWhatCame was None (arrival ∷ arrivals) first now
 what_came_taken was arrival arrivals first now came = record {
   since = came.since;
@@ -126,7 +139,11 @@ load_none Whole = tt
 load_none Bounded = refl
 
 alone : (one : Weight) → one ≡ plus no_weight one
-alone one = λ i. record { entries = (sym (zero-add one.entries)) i; octets = (sym (zero-add one.octets)) i; openings = (sym (zero-add one.openings)) i }
+alone one = λ i. record {
+  entries = (sym (zero-add one.entries)) i;
+  octets = (sym (zero-add one.octets)) i;
+  openings = (sym (zero-add one.openings)) i;
+}
 
 some_same : (one other : Weight) → Some one ≡ Some other → one ≡ other
 some_same one other e = cc
@@ -135,21 +152,25 @@ not_none : (one : Weight) → None ≡ Some one → ⊥
 not_none one e = cc
 
 -- the first datagram of a turn fits
-first_fits : (load : Option Weight) (one : Weight) (after : Option Weight) → load ≡ None → after ≡ with_weight load one → after ≡ Some one
+first_fits : (load : Option Weight) (one : Weight) (after : Option Weight) → load ≡ None → after ≡ with_weight load one
+    → after ≡ Some one
 first_fits load one after none is = is ∙ ap (λ l. with_weight l one) none
 
 -- one that fits
-one_fits : (w one next : Weight) (b : Bool) → fits (plus w one) ≡ b → Some next ≡ (if b then Some (plus w one) else None) → (next ≡ plus w one) × (fits (plus w one) ≡ true)
+one_fits : (w one next : Weight) (b : Bool) → fits (plus w one) ≡ b → Some next ≡ (if b then Some (plus w one) else None)
+    → (next ≡ plus w one) × (fits (plus w one) ≡ true)
 one_fits w one next true is e = (some_same next (plus w one) e, is)
 one_fits w one next false is e = absurd (not_none next (sym e))
 
 -- one that doesn't
-none_fits : (w one : Weight) (b : Bool) → fits (plus w one) ≡ b → None ≡ (if b then Some (plus w one) else None) → fits (plus w one) ≡ false
+none_fits : (w one : Weight) (b : Bool) → fits (plus w one) ≡ b → None ≡ (if b then Some (plus w one) else None)
+    → fits (plus w one) ≡ false
 none_fits w one true is e = absurd (not_none (plus w one) e)
 none_fits w one false is e = is
 
 load_more : (intake : Intake) (arrivals : List Parcel) (load : Option Weight) (arrival : Parcel) (next : Weight)
-    → IsLoad intake arrivals load → IsLoaded intake load arrival.octets (Some next) → IsLoad intake (arrival ∷ arrivals) (Some next)
+    → IsLoad intake arrivals load → IsLoaded intake load arrival.octets (Some next)
+    → IsLoad intake (arrival ∷ arrivals) (Some next)
 load_more Whole arrivals load arrival next so_far loaded = tt
 load_more Bounded [] load arrival next so_far loaded =
     let same = some_same next loaded.0 (first_fits load loaded.0 (Some next) so_far loaded.2) in
@@ -173,7 +194,8 @@ some_taken Whole arrivals load octets so_far loaded none = not_none no_weight lo
 some_taken Bounded [] load octets so_far loaded none = not_none loaded.0 (first_fits load loaded.0 None so_far loaded.2)
 some_taken Bounded (before ∷ rest) load octets so_far loaded none = cc
 
-within_load : (intake : Intake) (arrivals : List Parcel) (load : Option Weight) → IsLoad intake arrivals load → length arrivals ≤ 64 → IsWithin intake arrivals
+within_load : (intake : Intake) (arrivals : List Parcel) (load : Option Weight) → IsLoad intake arrivals load
+    → length arrivals ≤ 64 → IsWithin intake arrivals
 within_load Whole arrivals load so_far few = few
 within_load Bounded [] load so_far few = (few, inl (omega arith))
 within_load Bounded (arrival ∷ before) None so_far few = absurd so_far
@@ -190,7 +212,8 @@ leaves_none Bounded arrivals = tt
 -- ---- the first datagram
 
 -- one more, behind others
-begins_more : (was : Option Parcel) (arrival : Parcel) (arrivals : List Parcel) → BeginsWith was arrivals → BeginsWith was (arrival ∷ arrivals)
+begins_more : (was : Option Parcel) (arrival : Parcel) (arrivals : List Parcel) → BeginsWith was arrivals
+    → BeginsWith was (arrival ∷ arrivals)
 begins_more None arrival arrivals begins = tt
 begins_more (Some held) arrival [] begins = absurd (never held begins)
   where
@@ -199,12 +222,14 @@ begins_more (Some held) arrival [] begins = absurd (never held begins)
 begins_more (Some held) arrival (before ∷ rest) begins = begins
 
 -- the first one, which is the one that was left, if there was one
-begins_first : (was here : Option Parcel) (arrival : Parcel) → here ≡ was → (IsSome here → Some arrival ≡ here) → BeginsWith was (arrival ∷ [])
+begins_first : (was here : Option Parcel) (arrival : Parcel) → here ≡ was → (IsSome here → Some arrival ≡ here)
+    → BeginsWith was (arrival ∷ [])
 begins_first None here arrival same kept = tt
 begins_first (Some held) here arrival same kept = kept (subst IsSome (sym same) refl) ∙ same
 
 -- If nothing is there, nothing was left: a datagram that was left would still be there.
-begins_none : (was here : Option Parcel) (arrivals : List Parcel) → here ≡ was → (IsSome here → None ≡ here) → BeginsWith was arrivals
+begins_none : (was here : Option Parcel) (arrivals : List Parcel) → here ≡ was → (IsSome here → None ≡ here)
+    → BeginsWith was arrivals
 begins_none None here arrivals same kept = tt
 begins_none (Some held) here arrivals same kept = absurd (never (kept (subst IsSome (sym same) refl) ∙ same))
   where
@@ -217,12 +242,16 @@ at_error (Ok value) P holds wrong = absurd (cc)
 at_error (Err error) P holds right = holds
 
 -- no datagram is there
-pub not_there : (here : Option Parcel) (found : Option (Endpoint × Bor (List ℕ))) → option_map (λ (d : Endpoint × Bor (List ℕ)). record { endpoint = d.0; octets = d.1.now }) found ≡ here → found ≡ None → None ≡ here
-not_there here found is none = sym (ap (option_map (λ (d : Endpoint × Bor (List ℕ)). record { endpoint = d.0; octets = d.1.now })) none) ∙ is
+pub not_there : (here : Option Parcel) (found : Option (Endpoint × Bor (List ℕ)))
+    → option_map (λ (d : Endpoint × Bor (List ℕ)). record { endpoint = d.0; octets = d.1.now }) found ≡ here → found ≡ None
+    → None ≡ here
+not_there here found is none = sym (ap (option_map (λ (d : Endpoint × Bor (List ℕ)). record { endpoint = d.0; octets = d.1.now }))
+    none) ∙ is
 
 -- ---- a turn
 
-module _ (intake : Intake) (plan : PlanView) (turn : TurnView) (was : Option Parcel) (counted : ℕ) (old : Noted) (came : List Parcel) where
+module _ (intake : Intake) (plan : PlanView) (turn : TurnView) (was : Option Parcel) (counted : ℕ) (old : Noted)
+    (came : List Parcel) where
   pub takes_none : TakesSoFar intake plan turn was was None 0 counted counted old old came came
   takes_none = record {
     arrivals = [];
@@ -235,7 +264,8 @@ module _ (intake : Intake) (plan : PlanView) (turn : TurnView) (was : Option Par
   }
 
   -- a datagram more
-  pub takes_one : (here : Option Parcel) (load : Option Weight) (next : Weight) (arrival : Parcel) (count before after : ℕ) (mid new : Noted) (seen now : List Parcel)
+  pub takes_one : (here : Option Parcel) (load : Option Weight) (next : Weight) (arrival : Parcel) (count before after : ℕ)
+      (mid new : Noted) (seen now : List Parcel)
       → TakesSoFar intake plan turn was here load count counted before old mid came seen
       → Fills here (Some arrival) seen now
       → (IsSome here → Some arrival ≡ here)
@@ -249,14 +279,16 @@ module _ (intake : Intake) (plan : PlanView) (turn : TurnView) (was : Option Par
     received = let n = so_far.received in omega arith;
     first = inr (
       elim so_far.first [
-        | inl empty ↦ subst (λ arrivals. BeginsWith was (arrival ∷ arrivals)) (sym empty.0) (begins_first was here arrival empty.1 kept)
+        | inl empty ↦ subst (λ arrivals. BeginsWith was (arrival ∷ arrivals)) (sym empty.0)
+            (begins_first was here arrival empty.1 kept)
         | inr begun ↦ begins_more was arrival so_far.arrivals begun.0
       ],
       refl,
     );
     loaded = load_more intake so_far.arrivals load arrival next so_far.loaded loaded;
     taken = (mid, so_far.taken, is);
-    what_came = what_came_taken was arrival so_far.arrivals came now (what_came_more was here (Some arrival) so_far.arrivals came seen now so_far.what_came fills);
+    what_came = what_came_taken was arrival so_far.arrivals came now (what_came_more was here (Some arrival) so_far.arrivals came
+        seen now so_far.what_came fills);
   }
 
   -- no datagram is there, or the call of the wire failed
@@ -280,7 +312,8 @@ module _ (intake : Intake) (plan : PlanView) (turn : TurnView) (was : Option Par
   }
 
   -- one doesn't fit any more
-  pub takes_what_fits : (here : Option Parcel) (load : Option Weight) (arrival : Parcel) (count after : ℕ) (new : Noted) (seen now : List Parcel)
+  pub takes_what_fits : (here : Option Parcel) (load : Option Weight) (arrival : Parcel) (count after : ℕ) (new : Noted)
+      (seen now : List Parcel)
       → TakesSoFar intake plan turn was here load count counted after old new came seen
       → Fills here (Some arrival) seen now
       → IsLoaded intake load arrival.octets None

@@ -1,12 +1,17 @@
 pub mod CarriedPlaces
 pub mod CarryingLaws
 pub mod CountLaws
+pub mod CrossingLaws
+pub mod CrossingTurns
+pub mod CrossingWires
 pub mod EventLaws
 pub mod HandingLaws
 pub mod EmptyingLaws
 pub mod IntakeLaws
+pub mod StepRoom
 pub mod RoomLaws
 pub mod TurnRoom
 pub mod ServedLaws
 pub mod TickLaws
 pub mod VnakFrames
+pub mod Shared

@@ -1,5 +1,7 @@
 -- The steps of a turn put no more at each peer than its datagrams weigh together.
-use Rattle.std.proofs.Common.{◌≡◌, ◌≢◌, ◌≤◌, ◌<◌, ℕ, ◌+◌, ◌==◌, ◌&&◌, ◌⊎◌, Bool, true, false, cond, List, [], ◌∷◌, ◌++◌, Option, None, Some, Ok, Err, length, slice_get, refl, sym, ap, subst, ◌∙◌, inl, inr, append_assoc, append-nil, arith}
+use Rattle.std.proofs.Common.{◌≡◌, ◌≢◌, ◌≤◌, ◌<◌, ℕ, ◌+◌, ◌==◌, ◌&&◌, ◌⊎◌, Bool, true, false, cond, List, [], ◌∷◌, ◌++◌, Option}
+use Rattle.std.proofs.Common.{None, Some, Ok, Err, length, slice_get, refl, sym, ap, subst, ◌∙◌, inl, inr, append_assoc}
+use Rattle.std.proofs.Common.{append-nil, arith}
 use Rattle.std.specs.Prelude.{nat_le, Result}
 use Rattle.std.proofs.lemmas.Bool.{cases_Bool, leb-true, leb-false, eqb-true, eq-eqb}
 use Rattle.std.proofs.lemmas.List.{append_cancel_left, length-append}
@@ -9,17 +11,18 @@ use Rattle.call_signals.specs.Codes.{FRAME_IAX, IAX_VNAK}
 use Rattle.call_signals.specs.Message.{is_vnak, message_of}
 use Rattle.call_signals.specs.declared.order.OrderKind.{OrderKind}
 use Rattle.call_signals.specs.declared.order.OrderKind.TheVariants as kinds
-use Rattle.call_steps.specs.Act.{act_kind}
-use Rattle.call_steps.specs.DatagramsLeft.{OpensFew, act_puts, brought_by, datagrams_left, heard_puts, is_first, need_puts, signals_put, step_puts, touched_puts}
-use Rattle.call_steps.specs.Work.{Work, after_told, at, next_at, next_of, nothing_left, of_datagram}
-use Rattle.call_steps.specs.WorkState.{WorkState, begun, offer_in}
-use Rattle.call_steps.specs.declared.act.Act.{Act}
-use Rattle.call_steps.specs.declared.need.Need.{Need}
-use Rattle.call_steps.specs.declared.need.Need.TheVariants as needs
-use Rattle.call_steps.specs.declared.place.Place.{Place}
-use Rattle.call_steps.specs.declared.place.Place.TheVariants as places
-use Rattle.call_steps.specs.declared.reply.Reply.{Reply}
-use Rattle.call_steps.specs.declared.reply.Reply.TheVariants as replies
+use Rattle.call_control.specs.Act.{act_kind}
+use Rattle.call_control.specs.DatagramsLeft.{OpensFew, act_puts, brought_by, datagrams_left, heard_puts, is_first, need_puts}
+use Rattle.call_control.specs.DatagramsLeft.{signals_put, step_puts, touched_puts}
+use Rattle.call_control.specs.Work.{Work, after_told, at, next_at, next_of, nothing_left, of_datagram}
+use Rattle.call_control.specs.WorkState.{WorkState, begun, offer_in}
+use Rattle.call_control.specs.declared.act.Act.{Act}
+use Rattle.call_control.specs.declared.need.Need.{Need}
+use Rattle.call_control.specs.declared.need.Need.TheVariants as needs
+use Rattle.call_control.specs.declared.place.Place.{Place}
+use Rattle.call_control.specs.declared.place.Place.TheVariants as places
+use Rattle.call_control.specs.declared.reply.Reply.{Reply}
+use Rattle.call_control.specs.declared.reply.Reply.TheVariants as replies
 use Rattle.exchange_core.specs.Traces.{Call, IsHeard, IsMade, IsTrace, IsUnasked, MakesAll, told}
 use Rattle.iax_frames.specs.Datagram.{Spells}
 use Rattle.iax_frames.specs.FullFrame.{FullFrame, SpellsFull}
@@ -28,10 +31,10 @@ use Rattle.iax_frames.specs.TrunkFrame.{TrunkFrame}
 use Rattle.iax_frames.specs.VideoFrame.{VideoFrame}
 use Rattle.iax_frames.specs.declared.datagram.Datagram.{Datagram}
 use Rattle.iax_frames.specs.declared.datagram.Datagram.TheVariants.{Full, Mini, Video, Trunk}
-use Rattle.noted_steps.specs.Followed.{AreSound, Follow, LeadsAll, LeadsAt, load_at, load_of_step, loads_at, place_of}
-use Rattle.noted_steps.specs.Notes.{Noted}
-use Rattle.noted_steps.specs.declared.made.Made.{Made}
-use Rattle.noted_steps.specs.declared.made.Made.TheVariants as mades
+use Rattle.step_log.specs.Followed.{AreSound, Follow, LeadsAll, LeadsAt, load_at, load_of_step, loads_at, place_of}
+use Rattle.step_log.specs.Notes.{Noted}
+use Rattle.step_log.specs.declared.made.Made.{Made}
+use Rattle.step_log.specs.declared.made.Made.TheVariants as mades
 use Rattle.peer_lock.specs.Arrivals.{datagram_step}
 use Rattle.peer_lock.specs.HandedUp.{HandedUp}
 use Rattle.peer_lock.specs.Loads.{Load, datagram_load, load_of, no_load, order_load, plus}
@@ -50,45 +53,39 @@ use Rattle.udp_workers.specs.Ticked.{IsLater}
 use Rattle.udp_workers.specs.declared.intake.Weight.{Weight}
 use Rattle.udp_workers.proofs.VnakFrames.{vnak_is}
 use Rattle.udp_workers.proofs.RoomLaws.{none_few, none_noted}
+use Rattle.udp_workers.proofs.TickLaws.{heard_later, later_on, later_same}
 
 -- ---- all datagrams of a turn
 
--- a comparison that can't fail holds
-stable : (a b : ℕ) → ((a ≤ b → ⊥) → ⊥) → a ≤ b
-stable a b never = elim (cases_Bool (nat_le a b)) [
-  | inl e ↦ leb-true a b e
-  | inr e ↦ let more : b < a = leb-false a b e in absurd (never (λ le. omega (arith, le, more)))
-]
-
-heard_later : (plan : PlanView) (from : Endpoint) (call : Call) (old new : Noted) → IsHeard plan from call old new → IsLater old new
-heard_later plan from call old new (inl stranger) = ([], ap (λ (n : Noted). n.made) stranger.1 ∙ sym (append-nil old.made))
-heard_later plan from call old new (inr known) = (known.2.traces.steps, known.2.traces.noted)
-
--- the consequence if a turn only added to the notes
-later_so : (plan : PlanView) (turn : TurnView) (arrivals : List Parcel) (old new : Noted) → TakesAll plan turn arrivals old new → (a b : ℕ) → (IsLater old new → a ≤ b) → a ≤ b
-later_so plan turn [] old new takes a b so = so ([], ap (λ (n : Noted). n.made) takes ∙ sym (append-nil old.made))
-later_so plan turn (arrival ∷ earlier) old new takes a b so =
-    stable a b (λ never.
-    let stays : IsTurnedAway turn.stage arrival.octets → ⊥ = λ away.
-    never (later_so plan turn earlier old takes.0 takes.1 a b (λ later. so (later.0, ap (λ (n : Noted). n.made) (takes.2.away away) ∙ later.1))) in
-    let heard = heard_later plan arrival.endpoint _ takes.0 new (takes.2.heard stays) in
-    never (later_so plan turn earlier old takes.0 takes.1 a b (λ later.
-    so (later.0 ++ heard.0, heard.1 ∙ ap (λ (m : List Made). m ++ heard.0) later.1 ∙ append_assoc old.made later.0 heard.0))))
+-- a turn only adds to the notes
+pub takes_later : (plan : PlanView) (turn : TurnView) (arrivals : List Parcel) (old new : Noted)
+    → TakesAll plan turn arrivals old new
+    → IsLater old new
+takes_later plan turn [] old new takes = subst (IsLater old) (sym takes) (later_same old)
+takes_later plan turn (arrival ∷ earlier) old new takes =
+    let before = takes_later plan turn earlier old takes.0 takes.1 in
+    elim takes.2.heard [
+      | inl away ↦ subst (IsLater old) (sym (takes.2.away away)) before
+      | inr heard ↦ later_on old takes.0 new before (heard_later plan arrival.endpoint _ takes.0 new heard)
+    ]
 
 -- peers that follow two trails, one after the other
 record Split (one other : List Made) (old new : List PeerView) (place : ℕ) (follow : Follow (one ++ other) old new) : Type 0 where
   mid : List PeerView
   first : Follow one old mid
   second : Follow other mid new
-  loads : (loads_at place (one ++ other) old new follow).datagrams ≡ (loads_at place one old mid first).datagrams + (loads_at place other mid new second).datagrams
+  loads : (loads_at place (one ++ other) old new follow).datagrams ≡ (loads_at place one old mid first).datagrams
+      + (loads_at place other mid new second).datagrams
 
-split : (one other : List Made) (old new : List PeerView) (place : ℕ) (follow : Follow (one ++ other) old new) → Split one other old new place follow
+split : (one other : List Made) (old new : List PeerView) (place : ℕ) (follow : Follow (one ++ other) old new)
+    → Split one other old new place follow
 split [] other old new place follow = record { mid = old; first = refl; second = follow; loads = omega arith }
 split (step ∷ one) other old new place follow =
     let rest = split one other follow.0 new place follow.2 in
     record { mid = rest.mid; first = (follow.0, follow.1, rest.first); second = rest.second; loads = omega (arith, rest.loads) }
 
-step_sound : (at_place : Option ℕ) (made : Made) (old new : List PeerView) → LeadsAll at_place made old new → AreSound old → AreSound new
+step_sound : (at_place : Option ℕ) (made : Made) (old new : List PeerView) → LeadsAll at_place made old new → AreSound old
+    → AreSound new
 step_sound None made old new leads sound = subst AreSound (sym leads) sound
 step_sound (Some other) made old new leads sound = λ place peer there. elim (cases_Bool (place == other)) [
   | inl e ↦
@@ -103,34 +100,47 @@ step_sound (Some other) made old new leads sound = λ place peer there. elim (ca
 
 follow_sound : (trail : List Made) (old new : List PeerView) → Follow trail old new → AreSound old → AreSound new
 follow_sound [] old new follow sound = subst AreSound (sym follow) sound
-follow_sound (made ∷ rest) old new follow sound = follow_sound rest follow.0 new follow.2 (step_sound (place_of made) made old follow.0 follow.1 sound)
+follow_sound (made ∷ rest) old new follow sound = follow_sound rest follow.0 new follow.2
+    (step_sound (place_of made) made old follow.0 follow.1 sound)
 
-module _ (heard : (plan : PlanView) (from : Endpoint) (call : Call) (weight : Weight) (old new : Noted) (trail : List Made) (before after : List PeerView)
-    (follow : Follow trail before after) (place : ℕ) → IsHeard plan from call old new → new.made ≡ old.made ++ trail → IsWeightOf call.octets weight → AreSound before
+module _ (heard : (plan : PlanView) (from : Endpoint) (call : Call) (weight : Weight) (old new : Noted) (trail : List Made)
+    (before after : List PeerView)
+    (follow : Follow trail before after) (place : ℕ) → IsHeard plan from call old new → new.made ≡ old.made ++ trail
+    → IsWeightOf call.octets weight → AreSound before
     → (loads_at place trail before after follow).datagrams ≤ weight.entries) where
-  pub turn_few : (plan : PlanView) (turn : TurnView) (arrivals : List Parcel) (weight : Weight) (old new : Noted) (trail : List Made) (before after : List PeerView)
-      (follow : Follow trail before after) (place : ℕ) → TakesAll plan turn arrivals old new → new.made ≡ old.made ++ trail → Weigh arrivals weight → AreSound before
+  pub turn_few : (plan : PlanView) (turn : TurnView) (arrivals : List Parcel) (weight : Weight) (old new : Noted)
+      (trail : List Made) (before after : List PeerView)
+      (follow : Follow trail before after) (place : ℕ) → TakesAll plan turn arrivals old new → new.made ≡ old.made ++ trail
+      → Weigh arrivals weight → AreSound before
       → (loads_at place trail before after follow).datagrams ≤ weight.entries
   turn_few plan turn [] weight old new trail before after follow place takes noted weighs sound =
-      none_few trail place weight.entries before after follow (none_noted old.made trail (sym (ap (λ (n : Noted). n.made) takes) ∙ noted))
+      none_few trail place weight.entries before after follow
+      (none_noted old.made trail (sym (ap (λ (n : Noted). n.made) takes) ∙ noted))
   turn_few plan turn (arrival ∷ earlier) weight old new trail before after follow place takes noted weighs sound =
       let more : weight.entries ≡ weighs.1.entries + weighs.0.entries = ap (λ (w : Weight). w.entries) weighs.4 in
-      stable (loads_at place trail before after follow).datagrams weight.entries (λ never.
-      let stays : IsTurnedAway turn.stage arrival.octets → ⊥ = λ away.
-      let few = turn_few plan turn earlier weighs.1 old takes.0 trail before after follow place takes.1 (sym (ap (λ (n : Noted). n.made) (takes.2.away away)) ∙ noted) weighs.3 sound in
-      never (omega (arith, few, more)) in
-      let last = takes.2.heard stays in
-      let added = heard_later plan arrival.endpoint _ takes.0 new last in
-      never (later_so plan turn earlier old takes.0 takes.1 (loads_at place trail before after follow).datagrams weight.entries (λ later.
-      let whole : trail ≡ later.0 ++ added.0 =
-      append_cancel_left old.made trail (later.0 ++ added.0)
-      (sym noted ∙ added.1 ∙ ap (λ (m : List Made). m ++ added.0) later.1 ∙ append_assoc old.made later.0 added.0) in
-      subst (λ (s : List Made). (f : Follow s before after) → (loads_at place s before after f).datagrams ≤ weight.entries) (sym whole)
-      (λ f.
-      let parts = split later.0 added.0 before after place f in
-      let few = turn_few plan turn earlier weighs.1 old takes.0 later.0 before parts.mid parts.first place takes.1 later.1 weighs.3 sound in
-      let one = heard plan arrival.endpoint _ weighs.0 takes.0 new added.0 parts.mid after parts.second place last added.1 weighs.2 (follow_sound later.0 before parts.mid parts.first sound) in
-      omega (arith, parts.loads, few, one, more)) follow)))
+      elim takes.2.heard [
+        | inl away ↦
+            let same : takes.0.made ≡ old.made ++ trail = sym (ap (λ (n : Noted). n.made) (takes.2.away away)) ∙ noted in
+            let few = turn_few plan turn earlier weighs.1 old takes.0 trail before after follow place takes.1 same weighs.3
+            sound in
+            omega (arith, few, more)
+        | inr last ↦
+            let later = takes_later plan turn earlier old takes.0 takes.1 in
+            let added = heard_later plan arrival.endpoint _ takes.0 new last in
+            let whole : trail ≡ later.0 ++ added.0 =
+            append_cancel_left old.made trail (later.0 ++ added.0)
+            (sym noted ∙ added.1 ∙ ap (λ (m : List Made). m ++ added.0) later.1 ∙ append_assoc old.made later.0 added.0) in
+            subst (λ (s : List Made). (f : Follow s before after) → (loads_at place s before after f).datagrams ≤ weight.entries)
+            (sym whole) (λ f.
+            let parts = split later.0 added.0 before after place f in
+            let few = turn_few plan turn earlier weighs.1 old takes.0 later.0 before parts.mid parts.first place takes.1 later.1
+            weighs.3
+            sound in
+            let one = heard plan arrival.endpoint _ weighs.0 takes.0 new added.0 parts.mid after parts.second place last added.1
+            weighs.2
+            (follow_sound later.0 before parts.mid parts.first sound) in
+            omega (arith, parts.loads, few, one, more)) follow
+      ]
 
 -- ---- datagrams that fit
 
@@ -140,4 +150,5 @@ first_of_both false b is = is
 
 pub entries_fit : (weight : Weight) → fits weight ≡ true → weight.entries ≤ 255
 entries_fit weight is =
-    leb-true weight.entries 255 (first_of_both (nat_le weight.entries 255) (nat_le weight.octets 16384 && nat_le weight.openings 1) is)
+    leb-true weight.entries 255 (first_of_both (nat_le weight.entries 255) (nat_le weight.octets 16384 && nat_le weight.openings
+    1) is)

@@ -5,9 +5,9 @@ use Rattle.call_signals.specs.declared.order.OrderKind.TheVariants as kinds
 use Rattle.call_signals.specs.declared.signal.MediaSpan.{MediaSpan}
 use Rattle.call_signals.specs.declared.signal.Signal.{Signal}
 use Rattle.call_signals.specs.declared.signal.Signal.TheVariants as signals
-use Rattle.noted_steps.specs.Notes.{Noted}
-use Rattle.noted_steps.specs.declared.made.Made.{Made}
-use Rattle.noted_steps.specs.declared.made.Made.TheVariants as mades
+use Rattle.step_log.specs.Notes.{Noted}
+use Rattle.step_log.specs.declared.made.Made.{Made}
+use Rattle.step_log.specs.declared.made.Made.TheVariants as mades
 use Rattle.peer_lock.specs.HandedUp.{HandedUp}
 use Rattle.peer_lock.specs.declared.errors.PeerError.TheVariants.{NeedsNumber}
 use Rattle.peer_lock.specs.declared.steps.Step.{Step}
@@ -15,7 +15,7 @@ use Rattle.peer_plan.specs.Plan.{PlanView}
 use Rattle.peer_plan.specs.declared.endpoint.Endpoint.{Endpoint}
 use Rattle.udp_wires.specs.Parcels.{Parcel}
 use Rattle.udp_workers.specs.Draining.{IsTurnedAway}
-use Rattle.worker_watch.specs.declared.watch.ServiceStage.{ServiceStage}
+use Rattle.exchange_core.specs.declared.watch.ServiceStage.{ServiceStage}
 
 -- the signals that a step handed up; none if it was refused
 abbrev pub handed_up : {E : Type 0} → Result Step E → HandedUp → List (LegName × Signal)
@@ -79,10 +79,10 @@ IsItsCall plan from octets old new =
     ⊎ ((peer : ℕ) × (option_map (λ peer. peer.endpoint) (slice_get plan.peers peer) ≡ Some from) ×
     CarriesItsOwn peer octets old new)
 
--- a datagram of a turn: nothing was noted of one that was turned away, and of any other its own call
+-- A datagram of a turn: it is turned away, or its own call was noted. Nothing was noted of one that is turned away.
 pub record TakenCarries (plan : PlanView) (stage : ServiceStage) (arrival : Parcel) (old new : Noted) : Type 0 where
   pub away : IsTurnedAway stage arrival.octets → new ≡ old
-  pub heard : (IsTurnedAway stage arrival.octets → ⊥) → IsItsCall plan arrival.endpoint arrival.octets old new
+  pub heard : IsTurnedAway stage arrival.octets ⊎ IsItsCall plan arrival.endpoint arrival.octets old new
 
 -- all datagrams of a turn, one after another: their own calls and nothing else; the list has the last one first
 abbrev pub AllCarry : PlanView → ServiceStage → List Parcel → Noted → Noted → Type 0

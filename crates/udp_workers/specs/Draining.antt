@@ -2,8 +2,8 @@
 use Rattle.std.specs.Prelude.{◌≡◌, ℕ, List, Some}
 use Rattle.call_signals.specs.Codes.{FRAME_IAX, IAX_NEW}
 use Rattle.iax_frames.specs.FullFrame.{FullFrame, SpellsFull, subclass_meaning}
-use Rattle.worker_watch.specs.declared.watch.ServiceStage.{ServiceStage}
-use Rattle.worker_watch.specs.declared.watch.ServiceStage.TheVariants as stages
+use Rattle.exchange_core.specs.declared.watch.ServiceStage.{ServiceStage}
+use Rattle.exchange_core.specs.declared.watch.ServiceStage.TheVariants as stages
 
 -- a NEW that may open a leg: it has no destination and OSeqno 0
 pub record IsNew (frame : FullFrame) : Type 0 where

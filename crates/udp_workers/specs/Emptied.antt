@@ -1,7 +1,7 @@
 -- The datagrams that a turn takes out of the outboxes of its peers and gives to its wire.
 use Rattle.std.specs.Prelude.{◌≡◌, ℕ, ◌<◌, ◌⊎◌, Bool, false, List, [], ◌∷◌, ◌++◌, None, Some, length}
-use Rattle.noted_steps.specs.Notes.{Noted, note}
-use Rattle.noted_steps.specs.declared.made.Made.TheVariants as mades
+use Rattle.step_log.specs.Notes.{Noted, note}
+use Rattle.step_log.specs.declared.made.Made.TheVariants as mades
 use Rattle.peer_plan.specs.Plan.{PlanView}
 use Rattle.peer_plan.specs.declared.endpoint.Endpoint.{Endpoint}
 use Rattle.udp_wires.specs.Parcels.{Parcel}

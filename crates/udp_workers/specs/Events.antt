@@ -3,8 +3,8 @@ use Rattle.std.specs.Prelude.{◌≡◌, ℕ, ◌+◌, ◌*◌, ◌%◌, ◌^◌
 use Rattle.udp_wires.specs.Counts.{RisesBy}
 use Rattle.udp_wires.specs.Parcels.{Parcel}
 use Rattle.udp_workers.specs.declared.report.TurnReport.{TurnReport}
-use Rattle.worker_watch.specs.declared.watch.Event.{Event}
-use Rattle.worker_watch.specs.declared.watch.Event.TheVariants as events
+use Rattle.exchange_core.specs.declared.watch.Event.{Event}
+use Rattle.exchange_core.specs.declared.watch.Event.TheVariants as events
 
 -- nothing is counted yet
 abbrev pub nothing : TurnReport

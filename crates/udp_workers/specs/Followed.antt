@@ -1,8 +1,8 @@
 -- Peers of a plan that follow the notes of a turn, if no one else makes steps.
 use Rattle.std.specs.Prelude.{◌≡◌, ◌++◌, List}
-use Rattle.noted_steps.specs.Followed.{AreSound, Follow}
-use Rattle.noted_steps.specs.Notes.{Noted}
-use Rattle.noted_steps.specs.declared.made.Made.{Made}
+use Rattle.step_log.specs.Followed.{AreSound, Follow}
+use Rattle.step_log.specs.Notes.{Noted}
+use Rattle.step_log.specs.declared.made.Made.{Made}
 use Rattle.peer_lock.specs.Peer.{PeerView}
 
 -- the notes made meanwhile are the steps of these peers, each of which was in a state that its lock leaves

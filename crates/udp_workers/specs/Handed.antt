@@ -1,9 +1,9 @@
 -- The legs that were taken out under the pass of a worker, and that its watch was given.
 use Rattle.std.specs.Prelude.{◌≡◌, List, ◌++◌, Some, All}
 use Rattle.exchange_core.specs.Leaving.{Departure}
-use Rattle.noted_steps.specs.Notes.{Noted}
-use Rattle.noted_steps.specs.declared.made.Made.{Made}
-use Rattle.noted_steps.specs.declared.made.Made.TheVariants as mades
+use Rattle.step_log.specs.Notes.{Noted}
+use Rattle.step_log.specs.declared.made.Made.{Made}
+use Rattle.step_log.specs.declared.made.Made.TheVariants as mades
 use Rattle.call_book.specs.declared.leg_name.LegName.{LegName}
 use Rattle.peer_lock.specs.declared.steps.EndedLeg.{EndedLeg}
 

@@ -1,5 +1,6 @@
 -- The datagrams that a turn takes, and the one that it leaves for the next turn.
-use Rattle.std.specs.Prelude.{◌≡◌, ℕ, ◌+◌, ◌≤◌, ◌⊎◌, ◌==◌, ◌&&◌, not, Bool, List, [], ◌∷◌, ◌++◌, length, min, nat_le, sum_by, if◌then◌else◌, Option, None, Some, option_to_list, true, false}
+use Rattle.std.specs.Prelude.{◌≡◌, ℕ, ◌+◌, ◌≤◌, ◌⊎◌, ◌==◌, ◌&&◌, not, Bool, List, [], ◌∷◌, ◌++◌, length, min, nat_le, sum_by}
+use Rattle.std.specs.Prelude.{if◌then◌else◌, Option, None, Some, option_to_list, true, false}
 use Rattle.call_signals.specs.Codes.{FRAME_IAX, FRAME_VOICE, IAX_NEW, IAX_VNAK}
 use Rattle.exchange_core.specs.Traces.{IsHeard, moment}
 use Rattle.iax_frames.specs.Datagram.{IsFrame, Spells}
@@ -7,7 +8,7 @@ use Rattle.iax_frames.specs.FullFrame.{FullFrame, subclass_meaning}
 use Rattle.iax_frames.specs.TrunkFrame.{TrunkEntry}
 use Rattle.iax_frames.specs.declared.datagram.Datagram.{Datagram}
 use Rattle.iax_frames.specs.declared.datagram.Datagram.TheVariants.{Full, Mini, Video, Trunk}
-use Rattle.noted_steps.specs.Notes.{Noted}
+use Rattle.step_log.specs.Notes.{Noted}
 use Rattle.peer_plan.specs.Plan.{PlanView}
 use Rattle.udp_wires.specs.Parcels.{Parcel}
 use Rattle.udp_workers.specs.Draining.{IsTurnedAway}
@@ -16,7 +17,7 @@ use Rattle.udp_workers.specs.Ticked.{TicksDue}
 use Rattle.udp_workers.specs.declared.intake.Intake.{Intake}
 use Rattle.udp_workers.specs.declared.intake.Intake.TheVariants.{Whole, Bounded}
 use Rattle.udp_workers.specs.declared.intake.Weight.{Weight}
-use Rattle.worker_watch.specs.declared.watch.ServiceStage.{ServiceStage}
+use Rattle.exchange_core.specs.declared.watch.ServiceStage.{ServiceStage}
 
 -- the place for a datagram that isn't handled yet, and how many were put there, modulo 2 ^ 64
 pub record InboxView : Type 0 where
@@ -147,10 +148,10 @@ abbrev pub last_moment : List TurnView → Option ℕ
 last_moment [] = None
 last_moment (turn ∷ before) = Some turn.now
 
--- a datagram was taken: it was turned away, or the exchange received it
+-- A datagram was taken: it is turned away, or the exchange received it. Nothing was noted of one that is turned away.
 pub record IsTaken (plan : PlanView) (turn : TurnView) (arrival : Parcel) (old new : Noted) : Type 0 where
   pub away : IsTurnedAway turn.stage arrival.octets → new ≡ old
-  pub heard : (IsTurnedAway turn.stage arrival.octets → ⊥) → IsHeard plan arrival.endpoint (record (moment plan turn.now) {
+  pub heard : IsTurnedAway turn.stage arrival.octets ⊎ IsHeard plan arrival.endpoint (record (moment plan turn.now) {
     octets = arrival.octets;
     challenge = Some turn.challenge;
   }) old new
@@ -197,7 +198,8 @@ pub record Passed : Type 0 where
   pub went : List Parcel
 
 -- A turn: it took datagrams; then it ticked all of these peers, or each that was due; then it emptied their outboxes.
-pub record MakesTurn (intake : Intake) (plan : PlanView) (peers : List ℕ) (all : Bool) (turn : TurnView) (was left : Option Parcel)
+pub record MakesTurn (intake : Intake) (plan : PlanView) (peers : List ℕ) (all : Bool) (turn : TurnView)
+    (was left : Option Parcel)
     (counted now_counted : ℕ) (old new : Noted) (before after : Passed) : Type 0 where
   pub taken : Noted
   pub takes : TakesIn intake plan turn was left counted now_counted old taken before.came after.came
@@ -207,7 +209,8 @@ pub record MakesTurn (intake : Intake) (plan : PlanView) (peers : List ℕ) (all
 
 -- These turns were made one after another, the last of them first, and no others. No datagram was left to the first of
 -- them, and the last left the one named here. Each ticked all peers that it had to.
-abbrev pub MakesAllTurns : Intake → PlanView → List ℕ → List TurnView → Option Parcel → ℕ → Noted → Noted → Passed → Passed → Type 0
+abbrev pub MakesAllTurns : Intake → PlanView → List ℕ → List TurnView → Option Parcel → ℕ → Noted → Noted → Passed → Passed
+    → Type 0
 MakesAllTurns intake plan peers [] left received old new first now =
     (left ≡ None) × (received ≡ 0) × (new ≡ old) × (now ≡ first)
 MakesAllTurns intake plan peers (turn ∷ earlier) left received old new first now =

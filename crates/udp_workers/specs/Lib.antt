@@ -1,4 +1,5 @@
 pub mod Carried
+pub mod CarriedAcross
 pub mod Draining
 pub mod Emptied
 pub mod Events

@@ -3,8 +3,8 @@ use Rattle.std.specs.Prelude.{◌≡◌, ◌≢◌, ℕ, ◌⊎◌, Option, None
 use Rattle.peer_lock.specs.declared.steps.Rejection.{Rejection}
 use Rattle.peer_plan.specs.Plan.{PlanView}
 use Rattle.peer_plan.specs.declared.endpoint.Endpoint.{Endpoint}
-use Rattle.worker_watch.specs.declared.watch.Event.{Event}
-use Rattle.worker_watch.specs.declared.watch.Event.TheVariants as events
+use Rattle.exchange_core.specs.declared.watch.Event.{Event}
+use Rattle.exchange_core.specs.declared.watch.Event.TheVariants as events
 
 -- it came from an endpoint: it is reported as a stranger's, or as one of the peer with this endpoint, with its moment
 abbrev pub TellsReceipt : (Event → Type 0) → PlanView → Endpoint → ℕ → Type 0

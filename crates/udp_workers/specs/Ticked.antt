@@ -1,11 +1,11 @@
 -- The notes that a turn makes under the pass of its worker.
 use Rattle.std.specs.Prelude.{◌≡◌, ℕ, ◌||◌, Bool, true, false, List, [], ◌∷◌, ◌++◌}
-use Rattle.call_steps.specs.Work.{of_tick}
-use Rattle.call_steps.specs.WorkState.{begun}
+use Rattle.call_control.specs.Work.{of_tick}
+use Rattle.call_control.specs.WorkState.{begun}
 use Rattle.exchange_core.specs.Traces.{MakesAll, moment}
-use Rattle.noted_steps.specs.Notes.{Noted}
-use Rattle.noted_steps.specs.Stepped.{is_unticked}
-use Rattle.noted_steps.specs.declared.made.Made.{Made}
+use Rattle.step_log.specs.Notes.{Noted}
+use Rattle.step_log.specs.Stepped.{is_unticked}
+use Rattle.step_log.specs.declared.made.Made.{Made}
 use Rattle.peer_plan.specs.Plan.{PlanView, counts_of, range_of}
 
 -- all earlier notes are still there, and the later ones follow them
@@ -27,7 +27,7 @@ pub record TicksIfDue (plan : PlanView) (now : ℕ) (all : Bool) (peer : ℕ) (o
   pub due : is_due all peer old ≡ true → Ticks plan now peer old new
   pub left_out : is_due all peer old ≡ false → new ≡ old
 
--- a tick of each of these peers that was due when its turn in the order came, at one moment, and nothing else
+-- these peers in order, all at one moment: each is ticked if it is due when its turn comes, and nothing else is noted
 abbrev pub TicksDue : PlanView → ℕ → Bool → List ℕ → Noted → Noted → Type 0
 TicksDue plan now all [] old new = new ≡ old
 TicksDue plan now all (peer ∷ rest) old new =

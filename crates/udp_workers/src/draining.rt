@@ -3,9 +3,9 @@ ghost use Rattle.std.specs.Prelude.{◌↔◌, IsTrue};
 ghost use Rattle.udp_workers.specs.Draining.{IsNew, IsTurnedAway, SpellsNew};
 
 use call_signals::codes::{FRAME_IAX, IAX_NEW};
+use exchange_core::ServiceStage;
 use iax_frames::Full;
 use peer_lock::ReadDatagram;
-use worker_watch::ServiceStage;
 
 // Returns whether a full frame is a NEW that may open a leg.
 fn is_new(frame: &Full) -> bool

@@ -1,14 +1,15 @@
 //! Laws of draining services, and of the datagrams that a turn takes.
-ghost use Rattle.std.specs.Prelude.{◌≡◌, ◌+◌, ◌≤◌, ◌⊎◌, ℕ, List, [], Option, Some, false, length, slice_get, true};
+ghost use Rattle.std.specs.Prelude.{◌≡◌, ◌++◌, ◌+◌, ◌≤◌, ◌⊎◌, ℕ, List, [], Option, Some, false, length, slice_get, true};
 ghost use Rattle.std.specs.List.{AllByRecursion};
 ghost use Rattle.call_book.specs.declared.leg_name.LegName.{LegName};
-ghost use Rattle.call_steps.specs.Work.{of_call, of_datagram, of_hang_up, of_tick};
-ghost use Rattle.call_steps.specs.WorkState.{WorkState, begun};
+ghost use Rattle.call_control.specs.Work.{of_call, of_datagram, of_hang_up, of_tick};
+ghost use Rattle.call_control.specs.WorkState.{WorkState, begun};
 ghost use Rattle.exchange_core.specs.Newcomers.{SpellsOpening};
 ghost use Rattle.exchange_core.specs.Traces.{Call, IsHeard, IsTrace};
-ghost use Rattle.noted_steps.specs.Followed.{loads_at};
-ghost use Rattle.noted_steps.specs.Notes.{Noted};
-ghost use Rattle.noted_steps.specs.declared.made.Made.{Made};
+ghost use Rattle.step_log.specs.Followed.{Follow, loads_at};
+ghost use Rattle.step_log.specs.Notes.{Noted};
+ghost use Rattle.step_log.specs.Trails.{media_at};
+ghost use Rattle.step_log.specs.declared.made.Made.{Made};
 ghost use Rattle.peer_lock.specs.Loads.{dropped_for_room};
 ghost use Rattle.peer_lock.specs.Peer.{PeerView, to_send};
 ghost use Rattle.peer_lock.specs.Trunks.{waits};
@@ -16,9 +17,11 @@ ghost use Rattle.peer_plan.specs.Plan.{PlanView};
 ghost use Rattle.peer_plan.specs.declared.endpoint.Endpoint.{Endpoint};
 ghost use Rattle.udp_wires.specs.Parcels.{Parcel};
 ghost use Rattle.udp_workers.specs.Carried.{AllCarry, Carries, IsItsCall, IsNoMedia};
+ghost use Rattle.udp_workers.specs.CarriedAcross.{AllOrder, AreSpans, CarriesAcross, arrivals_of};
 ghost use Rattle.udp_workers.specs.Draining.{SpellsNew};
 ghost use Rattle.udp_workers.specs.Followed.{FollowNotes};
-ghost use Rattle.udp_workers.specs.Intake.{IsWeightOf, TakesAll, TakesIn, TurnView, Weigh};
+ghost use Rattle.udp_workers.specs.Intake.{IsWeightOf, MakesAllTurns, Passed, TakesAll, TakesIn, TurnView, Weigh};
+ghost use Rattle.udp_workers.specs.declared.intake.Intake.{Intake};
 ghost use Rattle.udp_workers.specs.declared.intake.Intake.TheVariants.{Bounded};
 ghost use Rattle.udp_workers.specs.declared.intake.Weight.{Weight};
 
@@ -42,8 +45,8 @@ pub fn arrivals_put_what_they_weigh()
         (loads_at place follows.trail before after follows.follow).datagrams ≤ weight.entries }
 {
     peer_lock::laws::full_frames_bring_few_answers();
-    call_steps::laws::calls_put_few_datagrams();
-    call_steps::laws::datagrams_bring_few();
+    call_control::laws::calls_put_few_datagrams();
+    call_control::laws::datagrams_bring_few();
 }
 
 /// A bounded turn loses nothing in an outbox if that was empty when the turn began, and less than a trunk frame waited. No
@@ -69,7 +72,7 @@ pub fn bounded_turns_lose_nothing()
         dropped_for_room last.accounts ≡ dropped_for_room first.accounts }
 {
     arrivals_put_what_they_weigh();
-    noted_steps::laws::trails_that_fit_lose_nothing();
+    step_log::laws::trails_that_fit_lose_nothing();
 }
 
 /// Media crosses only its own call. Each order of media in a datagram's call passes on a span of that datagram, which a leg
@@ -92,3 +95,32 @@ pub fn media_follows_its_call()
     ensures turn { (plan : PlanView) (turn : TurnView) (arrivals : List Parcel) (old new : Noted) →
         TakesAll plan turn arrivals old new → AllCarry plan turn.stage arrivals old new }
 {}
+
+/// Media crosses only its own call, from datagram to datagram. The media that the legs of a peer are ordered to send are spans
+/// of the datagrams that a turn took, from endpoints of peers. The ordered leg is the partner of another leg, which handed the
+/// span up. Pieces keep the order of the datagrams and of their octets, and no octet is in two of them. No other media is put
+/// into the peer's trunk queue and outbox, which are first in, first out. The wire is given what is taken out there. All that
+/// holds if no one else makes steps at the peers. A law about definitions; the call does nothing.
+pub fn media_crosses_only_its_call()
+    // The orders of the call of a datagram.
+    ensures call { (call : Call) (peer : ℕ) (steps : List Made) (to : WorkState) →
+        IsTrace call (begun (of_datagram peer)) steps to → (before after : List PeerView) → Follow steps before after →
+        (place : ℕ) → AreSpans steps call.octets 0 (media_at place steps) }
+    // Those of all datagrams that a turn took.
+    ensures turn { (plan : PlanView) (turn : TurnView) (arrivals : List Parcel) (old new : Noted) (trail : List Made)
+        (before after : List PeerView) → TakesAll plan turn arrivals old new → new.made ≡ old.made ++ trail →
+        Follow trail before after → (place : ℕ) → AllOrder plan place arrivals old new (media_at place trail) }
+    // From the datagrams of a run of turns to those that its wire was given.
+    ensures run { (intake : Intake) (plan : PlanView) (peers : List ℕ) (turns : List TurnView) (left : Option Parcel)
+        (received : ℕ) (old new : Noted) (came now : Passed)
+        (run : MakesAllTurns intake plan peers turns left received old new came now)
+        (before after : List PeerView) (follows : FollowNotes old new before after) →
+        (place : ℕ) (first last : PeerView) → slice_get before place ≡ Some first → slice_get after place ≡ Some last →
+        CarriesAcross plan place (arrivals_of intake plan peers turns left received old new came now run) old follows.trail
+        first last came now }
+{
+    media_follows_its_call();
+    peer_lock::laws::media_is_the_datagrams();
+    peer_lock::laws::media_is_handed_up_once();
+    step_log::laws::trails_keep_their_order();
+}

@@ -18,13 +18,13 @@ mod unwatched;
 mod waking;
 mod worker;
 
+pub use exchange_core::{Event, ServiceStage, Watch};
 pub use intake::Intake;
 pub use report::TurnReport;
 pub use running::MOST_TURNS;
-pub use seat::{Place, Post, Seat, Start, WatchedExchange};
+pub use seat::{Place, PlanBrand, Seat, Start, WatchedExchange};
 pub use sources::{Challenges, Moments};
 pub use threads::{NoThread, run_all};
 pub use udp_wires::{BindError, MioWire, PeerCounts, Sharing, Wire, WireFault};
 pub use unwatched::Unwatched;
 pub use worker::Worker;
-pub use worker_watch::{Event, ServiceStage, Watch};

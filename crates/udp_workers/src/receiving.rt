@@ -1,5 +1,5 @@
 //! Receives datagrams.
-ghost use Rattle.std.specs.Prelude.{◌≡◌, ◌+◌, ◌≤◌, IsTrue, Some};
+ghost use Rattle.std.specs.Prelude.{◌≡◌, ◌+◌, ◌≤◌, ◌⊎◌, IsTrue, Some};
 ghost use Rattle.exchange_core.specs.Rejections.{rejected_since};
 ghost use Rattle.exchange_core.specs.Traces.{IsHeard, moment};
 ghost use Rattle.peer_plan.specs.declared.endpoint.Endpoint.{Endpoint};
@@ -16,19 +16,18 @@ use crate::inbox::Inbox;
 use crate::intake::loaded;
 use crate::tally::Tally;
 use crate::turning::Turn;
-use exchange_core::{Gate, Pass};
-use peer_lock::Naming;
+use exchange_core::{Event, Gate, Pass, Watch};
+use peer_lock::LedgerSet;
 use peer_plan::Endpoint;
 use std::sync::Wait;
 use udp_wires::Wire;
-use worker_watch::{Event, Watch};
 
 // The greatest number of datagrams that one turn receives.
 const DATAGRAMS: u64 = 64;
 
 // Handles a received datagram. A stranger's is refused, and so is a NEW while the service drains. Any other is given to the
 // exchange.
-fn hear<V: Watch, G: Gate, J: Naming, R: Wait>(
+fn hear<V: Watch, G: Gate, J: LedgerSet, R: Wait>(
     turn: &Turn<'_, G, J, R>,
     pass: &mut Pass<J>,
     tally: &mut Tally<'_, V>,
@@ -54,7 +53,7 @@ fn hear<V: Watch, G: Gate, J: Naming, R: Wait>(
     // A datagram that is turned away is refused and makes no step. Any other is given to the exchange.
     ensures away { IsTurnedAway turn.now.stage octets.now →
         (pass.new ≡ pass.old) × (tally.new.report.refused ≡ tally.old.report.refused + 1) }
-    ensures heard { (IsTurnedAway turn.now.stage octets.now → ⊥) →
+    ensures heard { IsTurnedAway turn.now.stage octets.now ⊎
         IsHeard turn.now.exchange.now from (record (moment turn.now.exchange.now turn.now.time) {
           octets = octets.now;
           challenge = Some turn.now.challenge.now;
@@ -81,7 +80,7 @@ fn hear<V: Watch, G: Gate, J: Naming, R: Wait>(
 
 // Handles the datagram that was left to this turn. Then receives and handles others until none is available, a call of the
 // wire fails, 64 came, or one doesn't fit any more. That one is left to the next turn.
-pub(crate) fn receive_all<W: Wire, V: Watch, G: Gate, J: Naming, R: Wait>(
+pub(crate) fn receive_all<W: Wire, V: Watch, G: Gate, J: LedgerSet, R: Wait>(
     turn: &Turn<'_, G, J, R>,
     wire: &mut W,
     inbox: &mut Inbox,
@@ -107,7 +106,8 @@ pub(crate) fn receive_all<W: Wire, V: Watch, G: Gate, J: Naming, R: Wait>(
     ensures later { IsLater pass.old pass.new }
     ensures handed { GivesAll (V.given tally.old.watch.now) pass.old pass.new }
     ensures takes { TakesIn turn.now.intake turn.now.exchange.now
-        (record { stage = turn.now.stage; now = turn.now.time; challenge = turn.now.challenge.now }) inbox.old.datagram inbox.new.datagram
+        (record { stage = turn.now.stage; now = turn.now.time; challenge = turn.now.challenge.now }) inbox.old.datagram
+        inbox.new.datagram
         tally.old.report.received tally.new.report.received pass.old pass.new (W.came wire.old) (W.came wire.new) }
     // A received datagram was handled, or is left.
     ensures none_lost { RiseAlike inbox.old.given inbox.new.given (tally.old.report.received + waiting inbox.old.datagram)

@@ -1,14 +1,14 @@
 //! The report of a turn.
 ghost use Rattle.std.specs.Prelude.{◌≡◌, ◌+◌, ◌<◌, ◌^◌};
 
-use worker_watch::Event;
+use exchange_core::Event;
 
 /// The counts of one turn, or of several together.
 #[derive(Clone, Copy, Debug, Default, PartialEq, Eq)]
 pub struct TurnReport {
     /// Datagrams that were received.
     pub received: u64,
-    /// Of these, those that the exchange refused; a stranger's among them.
+    /// Received datagrams that the exchange refused, including those of strangers.
     pub refused: u64,
     /// Datagrams that were sent.
     pub sent: u64,

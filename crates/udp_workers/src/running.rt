@@ -15,12 +15,11 @@ use crate::tally::Tally;
 use crate::turning::{Turn, TurnEnd};
 use crate::unwatched::Unwatched;
 use crate::worker::Worker;
-use exchange_core::{Exchange, Gate, Pass};
-use peer_lock::Naming;
+use exchange_core::{Exchange, Gate, Pass, ServiceStage, Watch};
+use peer_lock::LedgerSet;
 use peer_plan::Plan;
 use std::sync::Wait;
 use udp_wires::Wire;
-use worker_watch::{ServiceStage, Watch};
 
 // The longest wait for a datagram between two turns, in milliseconds.
 const WAIT_MS: u64 = 20;
@@ -100,7 +99,7 @@ fn ticks_all(intake: Intake, before: Option<u64>, time: u64, was_full: bool) -> 
 impl Worker {
     /// Makes `turns` turns, each with its own moment, in milliseconds since the exchange was opened, and its own challenge.
     /// Waits for a datagram between them, at most 20 ms. Returns the sum of their reports.
-    pub fn run<W: Wire, G: Gate, J: Naming, M: Moments, C: Challenges, R: Wait>(
+    pub fn run<W: Wire, G: Gate, J: LedgerSet, M: Moments, C: Challenges, R: Wait>(
         &mut self,
         rt: &R,
         wire: &mut W,
@@ -122,7 +121,8 @@ impl Worker {
         ensures later { IsLater pass.old pass.new }
         // What the wire gave and was given, turn by turn.
         ensures intake { RunsTurns Intake.Whole exchange.now self.old.peers result.received pass.old pass.new
-            (record { came = W.came wire.old; went = W.went wire.old }) (record { came = W.came wire.new; went = W.went wire.new }) }
+            (record { came = W.came wire.old; went = W.went wire.old })
+            (record { came = W.came wire.new; went = W.went wire.new }) }
         ensures place { self.new.place ≡ self.old.place }
         ensures peers { self.new.peers ≡ self.old.peers }
         ensures turns { RisesBy self.old.turns self.new.turns turns }
@@ -163,7 +163,7 @@ impl Worker {
     /// left out a peer the worker waits at most 1 ms.
     ///
     /// At the end of a turn the watch is asked to wake each other worker at whose peers the turn made steps.
-    pub fn run_until<W: Wire, V: Watch, G: Gate, J: Naming, M: Moments, C: Challenges, R: Wait>(
+    pub fn run_until<W: Wire, V: Watch, G: Gate, J: LedgerSet, M: Moments, C: Challenges, R: Wait>(
         &mut self,
         rt: &R,
         wire: &mut W,
@@ -194,7 +194,8 @@ impl Worker {
         // limit and with the one left by the turn before as the first; then a tick of all its peers, or of each that was
         // due; then what it took out of their outboxes and gave to the wire, whole and in order; and nothing else.
         ensures intake { RunsTurns intake exchange.now self.old.peers result.received pass.old pass.new
-            (record { came = W.came wire.old; went = W.went wire.old }) (record { came = W.came wire.new; went = W.went wire.new }) }
+            (record { came = W.came wire.old; went = W.went wire.old })
+            (record { came = W.came wire.new; went = W.went wire.new }) }
         ensures place { self.new.place ≡ self.old.place }
         ensures peers { self.new.peers ≡ self.old.peers }
     {

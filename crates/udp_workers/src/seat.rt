@@ -8,19 +8,18 @@ use crate::intake::Intake;
 use crate::report::TurnReport;
 use crate::sources::{Challenges, Moments};
 use crate::worker::Worker;
-use exchange_core::{Exchange, Gate, Pass};
-use peer_lock::Naming;
+use exchange_core::{Exchange, Gate, Pass, Watch};
+use peer_lock::LedgerSet;
 use std::marker::{Brand, PhantomData};
 use std::sync::{Mutex, Wait};
 use udp_wires::Wire;
-use worker_watch::Watch;
 
 /// Names the plan of the exchange that seats are for.
-pub trait Post {
+pub trait PlanBrand {
     ghost plan: { PlanView };
 }
 
-impl Post for Brand {
+impl PlanBrand for Brand {
     ghost use Rattle.std.specs.Prelude.{[]};
 
     ghost plan = { record { workers = []; passes = 0; peers = []; routes = [] } };
@@ -29,7 +28,7 @@ impl Post for Brand {
 /// The exchange of that plan, the watch of its workers, the limit on the datagrams of a turn, and the greatest number of
 /// turns of each worker.
 #[derive(Drop)]
-pub struct WatchedExchange<'x, V: Watch, G: Gate, J: Naming, P: Post> {
+pub struct WatchedExchange<'x, V: Watch, G: Gate, J: LedgerSet, P: PlanBrand> {
     pub exchange: &'x Exchange<G, J>,
     pub watch: &'x V,
     pub intake: Intake,
@@ -53,7 +52,13 @@ pub struct Start {
 /// the wire since that run began, and each call of the wire that failed. Each datagram that it counts as received and not
 /// as refused made a step under the pass.
 #[derive(Drop)]
-pub struct Place<W: Wire + Drop, M: Moments + Drop, C: Challenges + Drop, J: Naming, P: Post> {
+pub struct Place<
+    W: Wire + Drop,
+    M: Moments + Drop,
+    C: Challenges + Drop,
+    J: LedgerSet,
+    P: PlanBrand,
+> {
     pub worker: Worker,
     pub wire: W,
     pub pass: Pass<J>,
@@ -70,7 +75,7 @@ pub struct Place<W: Wire + Drop, M: Moments + Drop, C: Challenges + Drop, J: Nam
 }
 
 // Returns the counts so far.
-fn start_of<W: Wire, J: Naming>(wire: &W, pass: &Pass<J>) -> Start
+fn start_of<W: Wire, J: LedgerSet>(wire: &W, pass: &Pass<J>) -> Start
     ensures given { result.given ≡ W.given wire.now }
     ensures failures { result.failures ≡ W.failures wire.now }
     ensures steps { result.steps ≡ pass.now.credit.steps }
@@ -82,7 +87,7 @@ fn start_of<W: Wire, J: Naming>(wire: &W, pass: &Pass<J>) -> Start
     }
 }
 
-impl<W: Wire + Drop, M: Moments + Drop, C: Challenges + Drop, J: Naming, P: Post> Place<
+impl<W: Wire + Drop, M: Moments + Drop, C: Challenges + Drop, J: LedgerSet, P: PlanBrand> Place<
     W,
     M,
     C,
@@ -92,7 +97,7 @@ impl<W: Wire + Drop, M: Moments + Drop, C: Challenges + Drop, J: Naming, P: Post
     ghost use Rattle.udp_workers.specs.Events.{CountsSends, MakesTurns, Tells, nothing};
     ghost use Rattle.udp_workers.specs.Handed.{GivesAll};
     ghost use Rattle.udp_workers.specs.Intake.{RunsTurns};
-    ghost use Rattle.worker_watch.specs.declared.watch.ServiceStage.TheVariants as ServiceStage;
+    ghost use Rattle.exchange_core.specs.declared.watch.ServiceStage.TheVariants as ServiceStage;
 
     // Makes a run, whose counts begin with the current ones.
     fn run<V: Watch, G: Gate, R: Wait>(
@@ -135,11 +140,17 @@ impl<W: Wire + Drop, M: Moments + Drop, C: Challenges + Drop, J: Naming, P: Post
 
 /// A place under a lock, so that a separate thread can take it.
 #[derive(Drop)]
-pub struct Seat<W: Wire + Drop, M: Moments + Drop, C: Challenges + Drop, J: Naming, P: Post> {
+pub struct Seat<
+    W: Wire + Drop,
+    M: Moments + Drop,
+    C: Challenges + Drop,
+    J: LedgerSet,
+    P: PlanBrand,
+> {
     place: Mutex<Place<W, M, C, J, P>>,
 }
 
-impl<W: Wire + Drop, M: Moments + Drop, C: Challenges + Drop, J: Naming, P: Post> Seat<
+impl<W: Wire + Drop, M: Moments + Drop, C: Challenges + Drop, J: LedgerSet, P: PlanBrand> Seat<
     W,
     M,
     C,

@@ -5,17 +5,16 @@ ghost use Rattle.peer_plan.specs.declared.endpoint.Endpoint.{Endpoint};
 ghost use Rattle.udp_wires.specs.Counts.{RiseAlike, RisesBy};
 ghost use Rattle.udp_workers.specs.Emptied.{Empties, EmptiesIfDue};
 ghost use Rattle.udp_workers.specs.Events.{CountsSends, HasRoom};
-ghost use Rattle.worker_watch.specs.declared.watch.Event.TheVariants as events;
+ghost use Rattle.exchange_core.specs.declared.watch.Event.TheVariants as events;
 
 use crate::tally::Tally;
 use crate::turning::Turn;
-use exchange_core::{Gate, Pass};
+use exchange_core::{Event, Gate, Pass, Watch};
 use iax_frames::Out;
-use peer_lock::Naming;
+use peer_lock::LedgerSet;
 use peer_plan::Endpoint;
 use std::sync::Wait;
 use udp_wires::Wire;
-use worker_watch::{Event, Watch};
 
 // The greatest number of frames that one turn takes from one outbox: all that it can hold.
 const FRAMES: u64 = 256;
@@ -61,7 +60,7 @@ fn send_frame<W: Wire, V: Watch>(
 
 // Takes up to 256 frames from the outbox of a peer, one after another into the lent buffer, and sends each to the peer's
 // endpoint. A frame that the wire doesn't take is lost. Returns whether it took 256.
-fn send_all<W: Wire, V: Watch, G: Gate, J: Naming, R: Wait>(
+fn send_all<W: Wire, V: Watch, G: Gate, J: LedgerSet, R: Wait>(
     turn: &Turn<'_, G, J, R>,
     wire: &mut W,
     pass: &mut Pass<J>,
@@ -103,7 +102,7 @@ fn send_all<W: Wire, V: Watch, G: Gate, J: Naming, R: Wait>(
 
 // Sends as above if the turn empties all outboxes, or if the peer had a step or a tick since the last send. Returns whether
 // the outbox gave as many frames as a turn takes.
-pub(crate) fn send_if_due<W: Wire, V: Watch, G: Gate, J: Naming, R: Wait>(
+pub(crate) fn send_if_due<W: Wire, V: Watch, G: Gate, J: LedgerSet, R: Wait>(
     turn: &Turn<'_, G, J, R>,
     wire: &mut W,
     pass: &mut Pass<J>,

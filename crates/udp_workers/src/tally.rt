@@ -2,11 +2,10 @@
 ghost use Rattle.std.specs.Prelude.{◌≡◌, All, IfSome, MatchOption};
 ghost use Rattle.exchange_core.specs.Leaving.{departure_of};
 ghost use Rattle.udp_workers.specs.Events.{Tells};
-ghost use Rattle.worker_watch.specs.declared.watch.Event.TheVariants as events;
+ghost use Rattle.exchange_core.specs.declared.watch.Event.TheVariants as events;
 
 use crate::report::TurnReport;
-use exchange_core::{Answer, Retired};
-use worker_watch::{Event, Watch};
+use exchange_core::{Answer, Event, Retired, Watch};
 
 // The watch, and the counts of the events reported to it.
 #[derive(Drop)]

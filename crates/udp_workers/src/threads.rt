@@ -2,17 +2,16 @@
 ghost use Rattle.std.specs.Prelude.{◌≡◌, ◌≤◌, [], IsFalse, IsOk, length};
 
 use crate::intake::Intake;
-use crate::seat::{Post, Seat, WatchedExchange};
+use crate::seat::{PlanBrand, Seat, WatchedExchange};
 use crate::sources::{Challenges, Moments};
 use crate::unwatched::Unwatched;
-use exchange_core::{Exchange, Gate};
-use peer_lock::Naming;
+use exchange_core::{Exchange, Gate, Watch};
+use peer_lock::LedgerSet;
 use std::marker::PhantomData;
 use std::sync::Wait;
 use std::thread;
 use std::thread::{Scope, Threads};
 use udp_wires::Wire;
-use worker_watch::Watch;
 
 /// The system refused a thread.
 #[derive(Clone, Copy, Debug, PartialEq, Eq)]
@@ -29,8 +28,8 @@ pub fn run_all<
     M: Moments + Drop + Send,
     C: Challenges + Drop + Send,
     G: Gate + Sync,
-    J: Naming,
-    P: Post + Send + Sync,
+    J: LedgerSet,
+    P: PlanBrand + Send + Sync,
     R: Threads + Wait + Sync,
 >(
     rt: &R,
@@ -59,7 +58,7 @@ pub fn run_all<
     }
 }
 
-impl<'s, V: Watch + Sync, G: Gate + Sync, J: Naming, P: Post + Send + Sync> WatchedExchange<
+impl<'s, V: Watch + Sync, G: Gate + Sync, J: LedgerSet, P: PlanBrand + Send + Sync> WatchedExchange<
     's,
     V,
     G,

@@ -20,16 +20,15 @@ use crate::unwatched::Unwatched;
 use crate::waking::wake_others;
 use crate::worker::Worker;
 use call_auth::Challenge;
-use exchange_core::{Exchange, Gate, Pass};
+use exchange_core::{Exchange, Gate, Pass, ServiceStage, Watch};
 use iax_frames::Out;
-use peer_lock::Naming;
+use peer_lock::LedgerSet;
 use std::sync::Wait;
 use udp_wires::Wire;
-use worker_watch::{ServiceStage, Watch};
 
 // The inputs of a turn that it doesn't change.
 #[derive(Drop)]
-pub(crate) struct Turn<'x, G: Gate, J: Naming, R: Wait> {
+pub(crate) struct Turn<'x, G: Gate, J: LedgerSet, R: Wait> {
     pub(crate) rt: &'x R,
     pub(crate) exchange: &'x Exchange<G, J>,
     // The stage, as read from the watch.
@@ -68,7 +67,7 @@ impl Worker {
     ///
     /// A call of the wire that fails ends the receiving; the rest of the turn follows. A datagram that the wire doesn't
     /// take is lost and counted. The records of legs are dropped.
-    pub fn turn<W: Wire, G: Gate, J: Naming, R: Wait>(
+    pub fn turn<W: Wire, G: Gate, J: LedgerSet, R: Wait>(
         &mut self,
         rt: &R,
         wire: &mut W,
@@ -118,7 +117,7 @@ impl Worker {
 
     // Makes a turn, with the datagram that the turn before left. It ticks all peers and empties their outboxes, or those
     // that are due. Returns the state for the next turn.
-    pub(crate) fn turn_at<W: Wire, V: Watch, G: Gate, J: Naming, R: Wait>(
+    pub(crate) fn turn_at<W: Wire, V: Watch, G: Gate, J: LedgerSet, R: Wait>(
         &mut self,
         turn: &Turn<'_, G, J, R>,
         wire: &mut W,
@@ -150,9 +149,11 @@ impl Worker {
             tally.new.report.refused + tally.old.report.received }
         ensures handed { GivesAll (V.given tally.old.watch.now) pass.old pass.new }
         ensures turn { MakesTurn turn.now.intake turn.now.exchange.now self.old.peers turn.now.all
-            (record { stage = turn.now.stage; now = turn.now.time; challenge = turn.now.challenge.now }) inbox.old.datagram inbox.new.datagram
+            (record { stage = turn.now.stage; now = turn.now.time; challenge = turn.now.challenge.now }) inbox.old.datagram
+            inbox.new.datagram
             tally.old.report.received tally.new.report.received pass.old pass.new
-            (record { came = W.came wire.old; went = W.went wire.old }) (record { came = W.came wire.new; went = W.went wire.new }) }
+            (record { came = W.came wire.old; went = W.went wire.old })
+            (record { came = W.came wire.new; went = W.went wire.new }) }
         ensures later { IsLater pass.old pass.new }
         ensures place { self.new.place ≡ self.old.place }
         ensures peers { self.new.peers ≡ self.old.peers }
@@ -175,7 +176,7 @@ impl Worker {
 }
 
 // Ticks a peer.
-fn tick_peer<V: Watch, G: Gate, J: Naming, R: Wait>(
+fn tick_peer<V: Watch, G: Gate, J: LedgerSet, R: Wait>(
     turn: &Turn<'_, G, J, R>,
     pass: &mut Pass<J>,
     tally: &mut Tally<'_, V>,
@@ -194,7 +195,11 @@ fn tick_peer<V: Watch, G: Gate, J: Naming, R: Wait>(
 }
 
 // Returns whether a turn ticks a peer.
-fn is_due<G: Gate, J: Naming, R: Wait>(turn: &Turn<'_, G, J, R>, pass: &Pass<J>, peer: u16) -> bool
+fn is_due<G: Gate, J: LedgerSet, R: Wait>(
+    turn: &Turn<'_, G, J, R>,
+    pass: &Pass<J>,
+    peer: u16,
+) -> bool
     ensures { result ≡ is_due turn.now.all peer pass.now }
 {
     turn.all || pass.is_unticked(peer)
@@ -202,7 +207,7 @@ fn is_due<G: Gate, J: Naming, R: Wait>(turn: &Turn<'_, G, J, R>, pass: &Pass<J>,
 
 // Ticks a peer if it is due. Returns whether it is.
 #[tactic(auto, using(crate::proofs::TickLaws::if_ticked, crate::proofs::TickLaws::if_left_out, crate::proofs::HandingLaws::gives_none))]
-fn tick_if_due<V: Watch, G: Gate, J: Naming, R: Wait>(
+fn tick_if_due<V: Watch, G: Gate, J: LedgerSet, R: Wait>(
     turn: &Turn<'_, G, J, R>,
     pass: &mut Pass<J>,
     tally: &mut Tally<'_, V>,
@@ -225,7 +230,7 @@ fn tick_if_due<V: Watch, G: Gate, J: Naming, R: Wait>(
 
 // Ticks each of these peers that is due when its turn in the order comes. So a peer with a leg that the tick of an earlier
 // peer hangs up is due too. Returns whether it left out a peer.
-fn tick_due<V: Watch, G: Gate, J: Naming, R: Wait>(
+fn tick_due<V: Watch, G: Gate, J: LedgerSet, R: Wait>(
     turn: &Turn<'_, G, J, R>,
     pass: &mut Pass<J>,
     tally: &mut Tally<'_, V>,
@@ -249,7 +254,7 @@ fn tick_due<V: Watch, G: Gate, J: Naming, R: Wait>(
 
 // Sends the datagrams in the outboxes of these peers, or of those that are due. Returns whether one gave as many as a turn
 // takes.
-fn empty_due<W: Wire, V: Watch, G: Gate, J: Naming, R: Wait>(
+fn empty_due<W: Wire, V: Watch, G: Gate, J: LedgerSet, R: Wait>(
     turn: &Turn<'_, G, J, R>,
     wire: &mut W,
     pass: &mut Pass<J>,
@@ -276,7 +281,8 @@ fn empty_due<W: Wire, V: Watch, G: Gate, J: Naming, R: Wait>(
     ensures came { W.came wire.new ≡ W.came wire.old }
     ensures counts { CountsSends tally.old.report tally.new.report (W.went wire.old) (W.went wire.new) (W.sent wire.old)
         (W.sent wire.new) }
-    ensures empties { EmptiesDue turn.now.exchange.now turn.now.all peers.now pass.old pass.new (W.went wire.old) (W.went wire.new) }
+    ensures empties { EmptiesDue turn.now.exchange.now turn.now.all peers.now pass.old pass.new (W.went wire.old)
+        (W.went wire.new) }
 {
     let mut was_full = false;
     for &peer in peers {

@@ -1,15 +1,14 @@
 //! The watch of a run that nobody observes.
 ghost use Rattle.std.specs.Prelude.{◌≡◌};
 
-use exchange_core::Retired;
-use worker_watch::{Event, ServiceStage, Watch};
+use exchange_core::{Event, Retired, ServiceStage, Watch};
 
 /// Always serves, and ignores its events.
 #[derive(Clone, Copy, Debug, Drop)]
 pub struct Unwatched;
 
 impl Watch for Unwatched {
-    ghost use Rattle.worker_watch.specs.declared.watch.ServiceStage.TheVariants.{Serving};
+    ghost use Rattle.exchange_core.specs.declared.watch.ServiceStage.TheVariants.{Serving};
 
     ghost answered = { λ _ stage. stage ≡ Serving };
 

@@ -2,10 +2,9 @@
 ghost use Rattle.std.specs.Prelude.{◌≡◌};
 
 use crate::turning::Turn;
-use exchange_core::{Gate, Pass};
-use peer_lock::Naming;
+use exchange_core::{Gate, Pass, Watch};
+use peer_lock::LedgerSet;
 use std::sync::Wait;
-use worker_watch::Watch;
 
 // The greatest number of workers of a plan.
 const WORKERS: usize = 8;
@@ -23,7 +22,7 @@ fn wake_once<V: Watch>(watch: &V, worker: u16, woken: &mut [bool; WORKERS]) {
 // Asks the watch to wake each other worker at whose peers steps were made under the pass since the last call. They may have
 // put datagrams into outboxes that only that worker empties. The worker at this place of the plan, which serves these
 // peers, makes the turn.
-pub(crate) fn wake_others<V: Watch, G: Gate, J: Naming, R: Wait>(
+pub(crate) fn wake_others<V: Watch, G: Gate, J: LedgerSet, R: Wait>(
     turn: &Turn<'_, G, J, R>,
     pass: &mut Pass<J>,
     watch: &V,

@@ -179,6 +179,13 @@ class Attributes(unittest.TestCase):
         self.assertEqual(functions.paths_after("using", attribute[1]), using)
         self.assertEqual(functions.paths_after("unfolding", attribute[1]), ["crate::specs::Rings::octets"])
 
+    def test_attribute_of_several_lines(self):
+        attribute = "#[tactic(auto, using(crate::proofs::Rings::counted,\n    crate::proofs::Rings::longer))]\n"
+        text = f"{attribute}fn one() -> u8 {{\n    1\n}}\n"
+        self.assertEqual(functions.function_around(text, "one", len(text) - 1).start, 0)
+        using = ["crate::proofs::Rings::counted", "crate::proofs::Rings::longer"]
+        self.assertEqual(functions.paths_after("using", functions.tactic_attribute(text)[1]), using)
+
     def test_function_without_one(self):
         self.assertIsNone(functions.tactic_attribute(text_around("pushed", "return false;")))
 

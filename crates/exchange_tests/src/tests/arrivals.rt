@@ -1,10 +1,10 @@
 //! Datagrams that come from the peers, each at its moment: a peer in the west calls 300, which leads east.
 use crate::tests::desk::{Desk, EAST, WEST};
 use exchange_core::Gate;
-use peer_lock::Naming;
+use layer_tests::frames::{EAST_ACCEPT, EAST_ANSWER, WEST_ACK, WEST_NEW};
+use peer_lock::LedgerSet;
 use peer_plan::Endpoint;
 use std::sync::Wait;
-use test_plans::frames::{EAST_ACCEPT, EAST_ANSWER, WEST_ACK, WEST_NEW};
 
 /// The moment of a datagram, the endpoint from which it comes, and its octets.
 pub type Arrival = (u64, Endpoint, &'static [u8]);
@@ -104,7 +104,10 @@ pub static TO_EAST: [&[u8]; 4] = [
 ];
 
 /// Hands these datagrams to the exchange, one after another, whatever the answers.
-pub fn hear_all<R: Wait, G: Gate, J: Naming>(desk: &mut Desk<'_, R, G, J>, arrivals: &[Arrival]) {
+pub fn hear_all<R: Wait, G: Gate, J: LedgerSet>(
+    desk: &mut Desk<'_, R, G, J>,
+    arrivals: &[Arrival],
+) {
     for arrival in arrivals {
         let (at, from, octets) = *arrival;
         let _told = desk.datagram(from, octets, at);

@@ -1,7 +1,7 @@
 //! Datagrams as peers send them, and how they are spoilt by a fixed generator.
 
 use crate::tests::desk::WEST_PLACE;
-use test_plans::frames::WEST_NEW;
+use layer_tests::frames::WEST_NEW;
 
 /// The longest datagram, in octets.
 const LONGEST: usize = 64;

@@ -4,7 +4,7 @@ use call_auth::Challenge;
 use call_book::LegName;
 use exchange_core::{Answer, Exchange, Gate, Pass, Refusal, Rejection};
 use iax_frames::Out;
-use peer_lock::{Naming, OrderError, Status};
+use peer_lock::{LedgerSet, OrderError, Status};
 use peer_plan::Endpoint;
 use std::process::Abort;
 use std::sync::Wait;
@@ -30,7 +30,7 @@ pub const EAST: Endpoint = Endpoint {
 /// An exchange, a pass of it, and the challenge of its callers. A call for a peer or a number returns `None` if the plan
 /// doesn't have this peer.
 #[derive(Drop)]
-pub struct Desk<'a, R: Wait, G: Gate, J: Naming> {
+pub struct Desk<'a, R: Wait, G: Gate, J: LedgerSet> {
     pub rt: &'a R,
     pub exchange: &'a Exchange<G, J>,
     pub pass: &'a mut Pass<J>,
@@ -42,7 +42,7 @@ pub fn peer_of(number: u16) -> u16 {
     if number <= 4 { WEST_PLACE } else { EAST_PLACE }
 }
 
-impl<'a, R: Abort + Wait, G: Gate, J: Naming> Desk<'a, R, G, J> {
+impl<'a, R: Abort + Wait, G: Gate, J: LedgerSet> Desk<'a, R, G, J> {
     ghost use Rattle.std.specs.Prelude.{◌≡◌};
 
     /// Returns a desk with a pass of an exchange, with the challenge `0`.
@@ -58,7 +58,7 @@ impl<'a, R: Abort + Wait, G: Gate, J: Naming> Desk<'a, R, G, J> {
     }
 }
 
-impl<R: Wait, G: Gate, J: Naming> Desk<'_, R, G, J> {
+impl<R: Wait, G: Gate, J: LedgerSet> Desk<'_, R, G, J> {
     /// Gives a datagram from an endpoint to the exchange.
     pub fn datagram(&mut self, from: Endpoint, octets: &[u8], now: u64) -> Told {
         told_by(
@@ -122,7 +122,7 @@ fn told_by(answer: Answer) -> Told {
 }
 
 /// Gives a datagram from a peer to the exchange.
-pub fn heard<R: Wait, G: Gate, J: Naming>(
+pub fn heard<R: Wait, G: Gate, J: LedgerSet>(
     desk: &mut Desk<'_, R, G, J>,
     peer: u16,
     octets: &[u8],
@@ -133,7 +133,7 @@ pub fn heard<R: Wait, G: Gate, J: Naming>(
 }
 
 /// Ticks both peers.
-pub fn tick_both<R: Wait, G: Gate, J: Naming>(desk: &mut Desk<'_, R, G, J>, now: u64) {
+pub fn tick_both<R: Wait, G: Gate, J: LedgerSet>(desk: &mut Desk<'_, R, G, J>, now: u64) {
     let _west = desk.tick(WEST_PLACE, now);
     let _east = desk.tick(EAST_PLACE, now);
 }

@@ -8,14 +8,14 @@ use crate::tests::opened::{Play, Scene, play_with};
 use crate::tests::recovery::recovers;
 use crate::tests::same::holds;
 use exchange_core::{Gate, NoGate};
-use peer_lock::Naming;
+use layer_tests::plans::ONE_WORKER;
+use peer_lock::LedgerSet;
 use std::process::Abort;
 use std::sync::Wait;
 use std::test::*;
-use test_plans::plans::ONE_WORKER;
 
 /// Plays a call until both legs are up, with a voice frame, a mini frame, a digit and a tick, and then ends it.
-pub fn call_and_end<R: Abort + Wait, G: Gate, J: Naming>(rt: &R, desk: &mut Desk<'_, R, G, J>) {
+pub fn call_and_end<R: Abort + Wait, G: Gate, J: LedgerSet>(rt: &R, desk: &mut Desk<'_, R, G, J>) {
     hear_all(desk, &MEDIA_AND_DIGIT);
     tick_both(desk, 30);
     holds(rt, "recovery", recovers(desk, 30));

@@ -3,7 +3,7 @@
 use crate::tests::datagrams::Sent;
 use crate::tests::desk::{Desk, peer_of};
 use exchange_core::Gate;
-use peer_lock::{Naming, Status};
+use peer_lock::{LedgerSet, Status};
 use std::sync::Wait;
 
 /// The leg of a number, its status at the last look, and the number with which it is bridged; 0 if it isn't bridged.
@@ -83,7 +83,7 @@ impl Legs {
     }
 
     /// Looks at all legs.
-    pub fn look<R: Wait, G: Gate, J: Naming>(&mut self, desk: &mut Desk<'_, R, G, J>) {
+    pub fn look<R: Wait, G: Gate, J: LedgerSet>(&mut self, desk: &mut Desk<'_, R, G, J>) {
         for place in self.places.iter_mut() {
             place.before = place.status;
             place.status = desk.status(place.number);

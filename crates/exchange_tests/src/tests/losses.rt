@@ -6,8 +6,10 @@ use crate::tests::desk::{Desk, EAST, WEST, WEST_PLACE};
 use crate::tests::same::same;
 use exchange_core::{Exchange, NoGate, Pass};
 use exchange_report::{PeerLosses, losses_of};
+use layer_tests::frames::WEST_NEW;
+use layer_tests::plans::NO_TRUNKS;
 use media_ledger::Blank;
-use peer_lock::{Losses, Naming, Service};
+use peer_lock::{LedgerSet, Losses, Service};
 use peer_plan::Plan;
 use std::alloc::Global;
 use std::marker::Brand;
@@ -15,12 +17,10 @@ use std::process::Abort;
 use std::sync::Wait;
 use std::sync::ledger::Ledger;
 use std::test::*;
-use test_plans::frames::WEST_NEW;
-use test_plans::plans::NO_TRUNKS;
 
 // Loses datagrams at a peer's outbox. A call is up, and its ACCEPT, its ANSWER and a voice frame wait for the west.
 // Then 300 mini frames come for it, and its NEW ten times, which is answered each time. Nothing is sent.
-fn losses_at_west<R: Abort + Wait, J: Naming>(
+fn losses_at_west<R: Abort + Wait, J: LedgerSet>(
     rt: &R,
     exchange: &Exchange<NoGate, J>,
     pass: &mut Pass<J>,

@@ -13,7 +13,7 @@ use crate::tests::wires::{
 };
 use exchange_core::{Exchange, Gate, NoGate, Pass};
 use media_ledger::Blank;
-use peer_lock::{Naming, Service};
+use peer_lock::{LedgerSet, Service};
 use peer_plan::{Plan, PlanError};
 use std::alloc::Global;
 use std::marker::Brand;
@@ -23,7 +23,7 @@ use std::sync::Wait;
 use std::sync::ledger::Ledger;
 use std::thread::Threads;
 use std::time::Clock;
-use udp_workers::Post;
+use udp_workers::PlanBrand;
 
 /// A scene that is played on an exchange under its only pass, and asserts its result.
 #[derive(Clone, Copy)]
@@ -54,7 +54,7 @@ pub enum Play<'a> {
     CallFor200(&'a mut Option<Rejection>),
 }
 
-fn play_scene<R: Abort + Wait, G: Gate, J: Naming>(
+fn play_scene<R: Abort + Wait, G: Gate, J: LedgerSet>(
     rt: &R,
     scene: Scene,
     desk: &mut Desk<'_, R, G, J>,
@@ -66,7 +66,7 @@ fn play_scene<R: Abort + Wait, G: Gate, J: Naming>(
 }
 
 // Plays a scene under the only pass.
-fn play_only<R: Abort + Wait, G: Gate, J: Naming>(
+fn play_only<R: Abort + Wait, G: Gate, J: LedgerSet>(
     rt: &R,
     scene: Scene,
     exchange: &Exchange<G, J>,
@@ -79,7 +79,7 @@ fn play_only<R: Abort + Wait, G: Gate, J: Naming>(
 }
 
 // Runs two threads, under two passes.
-fn play_pair<R: Abort + Clock + Sync + Threads + Wait, G: Gate + Sync, J: Naming>(
+fn play_pair<R: Abort + Clock + Sync + Threads + Wait, G: Gate + Sync, J: LedgerSet>(
     rt: &R,
     exchange: &Exchange<G, J>,
     passes: &mut [Pass<J>],
@@ -96,8 +96,8 @@ fn play_pair<R: Abort + Clock + Sync + Threads + Wait, G: Gate + Sync, J: Naming
 fn play_any<
     R: Abort + Clock + Net + Sync + Threads + Wait,
     G: Gate + Sync,
-    J: Naming,
-    P: Post + Send + Sync,
+    J: LedgerSet,
+    P: PlanBrand + Send + Sync,
 >(rt: &R, alloc: Global, play: Play<'_>, exchange: &Exchange<G, J>, passes: &mut Vec<Pass<J>>)
     requires { exchange.now ≡ P.plan }
 {
@@ -119,7 +119,7 @@ fn play_named<
     G: Gate + Sync,
     O: Ledger + Send + Sync,
     T: Ledger + Send + Sync,
-    P: Post + Send + Sync,
+    P: PlanBrand + Send + Sync,
 >(
     rt: &R,
     alloc: Global,

@@ -4,7 +4,7 @@ use crate::tests::desk::{Desk, EAST_PLACE, WEST_PLACE, heard, tick_both};
 use crate::tests::same::{holds, same};
 use call_book::LegName;
 use exchange_core::{Exchange, Gate, Pass, SettleError, Settlement};
-use peer_lock::{Naming, OrderError};
+use peer_lock::{LedgerSet, OrderError};
 use std::process::Abort;
 use std::sync::Wait;
 
@@ -18,7 +18,7 @@ const LATE_NEW: [u8; 33] = [
 ];
 
 // Returns whether the leg hangs up, or is past that. A growth that is refused is requested again.
-fn hangs_up<R: Wait, G: Gate, J: Naming>(
+fn hangs_up<R: Wait, G: Gate, J: LedgerSet>(
     desk: &mut Desk<'_, R, G, J>,
     name: LegName,
     now: u64,
@@ -34,7 +34,7 @@ fn hangs_up<R: Wait, G: Gate, J: Naming>(
 }
 
 // Hangs up each leg.
-fn all_hang_up<R: Wait, G: Gate, J: Naming>(desk: &mut Desk<'_, R, G, J>, now: u64) -> bool {
+fn all_hang_up<R: Wait, G: Gate, J: LedgerSet>(desk: &mut Desk<'_, R, G, J>, now: u64) -> bool {
     for number in 1..=NUMBERS {
         if let Some(status) = desk.status(number) {
             if !hangs_up(desk, status.name, now) {
@@ -46,7 +46,7 @@ fn all_hang_up<R: Wait, G: Gate, J: Naming>(desk: &mut Desk<'_, R, G, J>, now: u
 }
 
 // Waits until retries run out, within twenty seconds, without an answer. Returns the moment after them.
-fn wait_out<R: Wait, G: Gate, J: Naming>(desk: &mut Desk<'_, R, G, J>, now: u64) -> u64 {
+fn wait_out<R: Wait, G: Gate, J: LedgerSet>(desk: &mut Desk<'_, R, G, J>, now: u64) -> u64 {
     let mut moment = now;
     for _ in 0..20 {
         moment = moment.saturating_add(1000);
@@ -56,7 +56,7 @@ fn wait_out<R: Wait, G: Gate, J: Naming>(desk: &mut Desk<'_, R, G, J>, now: u64)
 }
 
 // Returns the number of numbers that have a leg.
-fn leg_count<R: Wait, G: Gate, J: Naming>(desk: &mut Desk<'_, R, G, J>) -> u16 {
+fn leg_count<R: Wait, G: Gate, J: LedgerSet>(desk: &mut Desk<'_, R, G, J>) -> u16 {
     let mut legs = 0u16;
     for number in 1..=NUMBERS {
         if desk.status(number).is_some() {
@@ -68,7 +68,7 @@ fn leg_count<R: Wait, G: Gate, J: Naming>(desk: &mut Desk<'_, R, G, J>) -> u16 {
 
 // Returns whether four callers of a peer are accepted, as many as it has numbers. A growth that is refused is requested
 // again.
-fn all_are_let_in<R: Wait, G: Gate, J: Naming>(
+fn all_are_let_in<R: Wait, G: Gate, J: LedgerSet>(
     desk: &mut Desk<'_, R, G, J>,
     peer: u16,
     now: u64,
@@ -87,7 +87,7 @@ fn all_are_let_in<R: Wait, G: Gate, J: Naming>(
 
 /// Hangs up every leg and waits. Returns whether none is left then, and callers get every number of both peers, so that no
 /// lease was kept.
-pub fn recovers<R: Wait, G: Gate, J: Naming>(desk: &mut Desk<'_, R, G, J>, now: u64) -> bool {
+pub fn recovers<R: Wait, G: Gate, J: LedgerSet>(desk: &mut Desk<'_, R, G, J>, now: u64) -> bool {
     if !all_hang_up(desk, now) {
         return false;
     }
@@ -121,7 +121,7 @@ impl Sums {
 type Settled<G, J> = Result<Settlement<J>, (Exchange<G, J>, Vec<Pass<J>>, SettleError)>;
 
 // Closes the accounts. A growth that is refused is requested again.
-fn settled<G: Gate, J: Naming>(exchange: Exchange<G, J>, passes: Vec<Pass<J>>) -> Settled<G, J> {
+fn settled<G: Gate, J: LedgerSet>(exchange: Exchange<G, J>, passes: Vec<Pass<J>>) -> Settled<G, J> {
     match exchange.settle(passes) {
         Err((exchange, passes, SettleError::Memory)) => exchange.settle(passes),
         settled => settled,
@@ -129,7 +129,7 @@ fn settled<G: Gate, J: Naming>(exchange: Exchange<G, J>, passes: Vec<Pass<J>>) -
 }
 
 // Asserts that the accounts stay open if a pass is missing, and returns everything.
-fn handed_back<R: Abort, G: Gate, J: Naming>(
+fn handed_back<R: Abort, G: Gate, J: LedgerSet>(
     rt: &R,
     settled: Settled<G, J>,
 ) -> (Exchange<G, J>, Vec<Pass<J>>) {
@@ -140,7 +140,7 @@ fn handed_back<R: Abort, G: Gate, J: Naming>(
 }
 
 // Returns the sums of closed accounts.
-fn sums_of<R: Abort, G: Gate, J: Naming>(rt: &R, settled: Settled<G, J>) -> Sums {
+fn sums_of<R: Abort, G: Gate, J: LedgerSet>(rt: &R, settled: Settled<G, J>) -> Sums {
     match settled {
         Ok(settlement) => Sums {
             accepted: settlement.accepted,
@@ -155,7 +155,7 @@ fn sums_of<R: Abort, G: Gate, J: Naming>(rt: &R, settled: Settled<G, J>) -> Sums
 
 /// Tries to close the accounts without one pass, which is refused; then closes them with all passes, and checks that they
 /// balance.
-pub fn ended<R: Abort, G: Gate, J: Naming>(
+pub fn ended<R: Abort, G: Gate, J: LedgerSet>(
     rt: &R,
     exchange: Exchange<G, J>,
     passes: Vec<Pass<J>>,

@@ -1,4 +1,4 @@
-//! An exchange next to a driver without locks that makes the steps which `call_steps::Work` names.
+//! An exchange next to a driver without locks that makes the steps which `call_control::Work` names.
 ghost use Rattle.std.specs.Prelude.{◌≡◌, ◌+◌, ◌^◌, length};
 
 mod compared;
@@ -15,8 +15,9 @@ use crate::tests::steps_by_hand::plain::{Peers, Plain};
 use call_auth::Challenge;
 use call_book::CallBook;
 use exchange_core::{Exchange, NoGate};
+use layer_tests::plans::ONE_WORKER;
 use media_ledger::{Blank, Share, supply};
-use peer_lock::{Naming, Pass, PeerState, Service};
+use peer_lock::{LedgerSet, Pass, PeerState, Service};
 use peer_plan::Plan;
 use std::alloc::Global;
 use std::marker::Brand;
@@ -24,7 +25,6 @@ use std::process::Abort;
 use std::sync::Wait;
 use std::sync::ledger::Ledger;
 use std::test::*;
-use test_plans::plans::ONE_WORKER;
 
 // The credit with which each peer of an exchange begins.
 const CREDIT: u64 = 1 << 48;
@@ -47,7 +47,7 @@ fn shares_of<L: Ledger>(
 }
 
 // Builds a peer of the plan. It has four numbers.
-fn state_of<J: Naming>(
+fn state_of<J: LedgerSet>(
     rt: &impl Abort,
     alloc: Global,
     plan: &Plan,

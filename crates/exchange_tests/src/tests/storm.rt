@@ -7,11 +7,11 @@ use crate::tests::opened::{Scene, play_on};
 use crate::tests::recovery::recovers;
 use crate::tests::same::holds;
 use exchange_core::{Gate, Refusal};
-use peer_lock::Naming;
+use layer_tests::plans::ONE_WORKER;
+use peer_lock::LedgerSet;
 use std::process::Abort;
 use std::sync::Wait;
 use std::test::*;
-use test_plans::plans::ONE_WORKER;
 
 /// The number of datagrams in the storm.
 const DATAGRAMS: u64 = 100_000;
@@ -120,7 +120,7 @@ impl Peers {
 }
 
 // Delivers all waiting datagrams to a peer.
-fn deliver_to<R: Wait, G: Gate, J: Naming>(
+fn deliver_to<R: Wait, G: Gate, J: LedgerSet>(
     desk: &mut Desk<'_, R, G, J>,
     peers: &mut Peers,
     peer: u16,
@@ -158,7 +158,7 @@ fn is_allowed(legs: &mut Legs, sent: &Sent, told: Told) -> bool {
 }
 
 // Handles a datagram. No leg changes except those that it concerns.
-fn hear_one<R: Abort + Wait, G: Gate, J: Naming>(
+fn hear_one<R: Abort + Wait, G: Gate, J: LedgerSet>(
     rt: &R,
     desk: &mut Desk<'_, R, G, J>,
     legs: &mut Legs,
@@ -191,7 +191,7 @@ impl Tally {
 }
 
 // A hundred thousand datagrams, many of them spoilt.
-fn storm<R: Abort + Wait, G: Gate, J: Naming>(rt: &R, desk: &mut Desk<'_, R, G, J>) -> Tally {
+fn storm<R: Abort + Wait, G: Gate, J: LedgerSet>(rt: &R, desk: &mut Desk<'_, R, G, J>) -> Tally {
     let mut peers = Peers::new();
     let mut legs = Legs::none();
     let mut tally = Tally {
@@ -213,7 +213,7 @@ fn storm<R: Abort + Wait, G: Gate, J: Naming>(rt: &R, desk: &mut Desk<'_, R, G, 
 }
 
 /// Plays the storm, and then ends all calls.
-pub fn storm_and_end<R: Abort + Wait, G: Gate, J: Naming>(rt: &R, desk: &mut Desk<'_, R, G, J>) {
+pub fn storm_and_end<R: Abort + Wait, G: Gate, J: LedgerSet>(rt: &R, desk: &mut Desk<'_, R, G, J>) {
     let tally = storm(rt, desk);
     // The storm isn't all refusals.
     more_than(rt, "answered", tally.answered, DATAGRAMS / 4);

@@ -4,14 +4,14 @@ use crate::tests::desk::{Desk, EAST_PLACE, WEST_PLACE};
 use crate::tests::opened::{Play, play_with};
 use crate::tests::same::holds;
 use exchange_core::Gate;
-use peer_lock::Naming;
+use layer_tests::plans::TWO_PASSES;
+use peer_lock::LedgerSet;
 use std::process::Abort;
 use std::sync::Wait;
 use std::sync::atomic::{AtomicBool, Ordering};
 use std::test::*;
 use std::thread;
 use std::time::{Clock, Duration};
-use test_plans::plans::TWO_PASSES;
 
 /// The progress of two peers at once.
 #[derive(Drop)]
@@ -83,13 +83,17 @@ impl<R: Clock> Gate for Meeting<'_, R> {
 }
 
 /// Ticks a peer, which isn't refused.
-pub fn tick<R: Abort + Wait, G: Gate, J: Naming>(rt: &R, desk: &mut Desk<'_, R, G, J>, peer: u16) {
+pub fn tick<R: Abort + Wait, G: Gate, J: LedgerSet>(
+    rt: &R,
+    desk: &mut Desk<'_, R, G, J>,
+    peer: u16,
+) {
     let told = desk.tick(peer, 0).expect(rt, "a peer");
     holds(rt, "a tick", told.refused.is_none());
 }
 
 /// Ticks the east, once the west is held.
-pub fn tick_east<R: Abort + Clock + Wait, G: Gate, J: Naming>(
+pub fn tick_east<R: Abort + Clock + Wait, G: Gate, J: LedgerSet>(
     rt: &R,
     desk: &mut Desk<'_, R, G, J>,
     progress: &Progress,

@@ -4,14 +4,14 @@ use crate::tests::desk::{Desk, EAST_PLACE, WEST_PLACE};
 use crate::tests::opened::{Play, play_with};
 use crate::tests::same::{holds, same};
 use exchange_core::{Gate, NoGate};
-use peer_lock::Naming;
+use layer_tests::plans::TWO_PASSES;
+use peer_lock::LedgerSet;
 use std::process::Abort;
 use std::sync::Wait;
 use std::test::*;
-use test_plans::plans::TWO_PASSES;
 
 // Returns whether a tick is one step, and isn't refused.
-fn is_one_step<R: Wait, G: Gate, J: Naming>(
+fn is_one_step<R: Wait, G: Gate, J: LedgerSet>(
     desk: &mut Desk<'_, R, G, J>,
     peer: u16,
     now: u64,
@@ -23,7 +23,7 @@ fn is_one_step<R: Wait, G: Gate, J: Naming>(
 }
 
 /// Ticks each peer 250 times, at the moments 0 to 249.
-pub fn ticked<R: Abort + Wait, G: Gate, J: Naming>(rt: &R, desk: &mut Desk<'_, R, G, J>) {
+pub fn ticked<R: Abort + Wait, G: Gate, J: LedgerSet>(rt: &R, desk: &mut Desk<'_, R, G, J>) {
     for now in 0..250 {
         let west = is_one_step(desk, WEST_PLACE, now);
         holds(rt, "one step", west && is_one_step(desk, EAST_PLACE, now));

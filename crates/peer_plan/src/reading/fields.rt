@@ -19,7 +19,8 @@ pub(crate) fn member(table: &Table, key: Key) -> Option<&Value>
 // Returns the value at a key that has no default.
 pub(crate) fn required(table: &Table, key: Key) -> Result<&Value, PlanError>
     ensures found { IfOk result (λ found. get_member (key_name key) (table_view table.now) ≡ Some (view found.now)) }
-    ensures absent { IfErr result (λ error. (error ≡ PlanError.Missing key) × (get_member (key_name key) (table_view table.now) ≡ None)) }
+    ensures absent { IfErr result (λ error. (error ≡ PlanError.Missing key) ×
+        (get_member (key_name key) (table_view table.now) ≡ None)) }
 {
     member(table, key).ok_or(PlanError::Missing(key))
 }

@@ -3,7 +3,8 @@ ghost use Rattle.std.specs.Prelude.{◌≡◌, ◌≤◌, [], Option};
 ghost use Rattle.std.specs.List.{list_any};
 ghost use Rattle.toml.specs.View.{table_view, items_view};
 ghost use Rattle.peer_plan.specs.Fields.{Gives, each};
-ghost use Rattle.peer_plan.specs.Reading.{window_in, poke_in, call_tokens_in, qualify_ms_in, tokens_if, rules_from, peer_in, is_named};
+ghost use Rattle.peer_plan.specs.Reading.{window_in, poke_in, call_tokens_in, qualify_ms_in, tokens_if, rules_from, peer_in};
+ghost use Rattle.peer_plan.specs.Reading.{is_named};
 ghost use Rattle.peer_plan.specs.Reading.{has_same_endpoint, has_same_name, is_endpoint, peers_in};
 
 use crate::endpoint::Endpoint;

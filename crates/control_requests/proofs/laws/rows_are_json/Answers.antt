@@ -8,8 +8,10 @@ returns-clause-one_more c = one_more
 
 pub returns-clause-peers : goal.returns-clause-peers
 unfolding serde_json_on_literals
-returns-clause-peers c rows = ap (λ (text : List ℕ). 123 ∷ 34 ∷ 112 ∷ 101 ∷ 101 ∷ 114 ∷ 115 ∷ 34 ∷ 58 ∷ 91 ∷ text) (items_before rows (125 ∷ []))
+returns-clause-peers c rows = ap (λ (text : List ℕ). 123 ∷ 34 ∷ 112 ∷ 101 ∷ 101 ∷ 114 ∷ 115 ∷ 34 ∷ 58 ∷ 91 ∷ text)
+    (items_before rows (125 ∷ []))
 
 pub returns-clause-calls : goal.returns-clause-calls
 unfolding serde_json_on_literals
-returns-clause-calls c rows = ap (λ (text : List ℕ). 123 ∷ 34 ∷ 99 ∷ 97 ∷ 108 ∷ 108 ∷ 115 ∷ 34 ∷ 58 ∷ 91 ∷ text) (items_before rows (125 ∷ []))
+returns-clause-calls c rows = ap (λ (text : List ℕ). 123 ∷ 34 ∷ 99 ∷ 97 ∷ 108 ∷ 108 ∷ 115 ∷ 34 ∷ 58 ∷ 91 ∷ text)
+    (items_before rows (125 ∷ []))

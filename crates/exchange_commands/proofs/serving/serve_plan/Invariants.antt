@@ -6,5 +6,5 @@ ghosts-work-O-Ledger g a = record { name = a.octets.name; parts = a.octets.parts
 abbrev pub ghosts-work-S-Ledger : goal.ghosts-work-S-Ledger
 ghosts-work-S-Ledger g a = record { name = a.steps.name; parts = a.steps.parts }
 
-abbrev pub ghosts-work-P-Post : goal.ghosts-work-P-Post
-ghosts-work-P-Post g a = record { plan = a.plan }
+abbrev pub ghosts-work-P-PlanBrand : goal.ghosts-work-P-PlanBrand
+ghosts-work-P-PlanBrand g a = record { plan = a.plan }

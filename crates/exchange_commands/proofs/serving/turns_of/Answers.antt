@@ -1,6 +1,6 @@
 use denote.Param.Send.{sendable}
 use Rattle.exchange_commands.proofs.serving.turns_of.Goals as goal
-use Rattle.worker_seats.proofs.Sending.{traced_send}
+use Rattle.worker_setup.proofs.Sending.{traced_send}
 
 pub run_all-ran-requires-send-W : goal.run_all-ran-requires-send-W
 run_all-ran-requires-send-W g c κs within = search (traced_send, sendable) parts 8

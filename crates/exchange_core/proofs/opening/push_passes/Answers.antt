@@ -11,7 +11,9 @@ loop-i-preserved g c =
       steps = replicate-less _ _ _ _ (c.last_of-s.ensures.equal _ _ c.loop-i.invariant.steps).1;
       made = omega (arith, c.in_ok-push.ensures.len, c.loop-i.invariant.made);
       empty = subst (All (λ p. (p.credit.octets ≡ 0) × (p.credit.steps ≡ 0))) pushed
-          (All-push (λ p. (p.credit.octets ≡ 0) × (p.credit.steps ≡ 0)) c.loop-i.passes.items c.unused_pass.result c.loop-i.invariant.empty c.unused_pass.ensures.empty);
+          (All-push (λ p. (p.credit.octets ≡ 0) × (p.credit.steps ≡ 0)) c.loop-i.passes.items c.unused_pass.result
+          c.loop-i.invariant.empty c.unused_pass.ensures.empty);
       unused = subst (All (λ p. (p.begun ≡ 0) × (p.made ≡ []))) pushed
-          (All-push (λ p. (p.begun ≡ 0) × (p.made ≡ [])) c.loop-i.passes.items c.unused_pass.result c.loop-i.invariant.unused c.unused_pass.ensures.unused);
+          (All-push (λ p. (p.begun ≡ 0) × (p.made ≡ [])) c.loop-i.passes.items c.unused_pass.result c.loop-i.invariant.unused
+          c.unused_pass.ensures.unused);
     }

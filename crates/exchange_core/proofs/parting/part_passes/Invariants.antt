@@ -10,7 +10,8 @@ invariant-loop-pass g l = record {
   octets_room : vec_capacity l.octets ≡ vec_capacity l.initial.octets;
   steps_room : vec_capacity l.steps ≡ vec_capacity l.initial.steps;
   octets : sum l.octets.items + left_with l.passes.items ≡ sum l.initial.octets.items + left_with l.initial.passes.items;
-  noted : steps_under l.initial.passes.items + begun_with l.passes.items + noted_under l.passes.items ≡ begun_with l.initial.passes.items + noted_under l.initial.passes.items + steps_under l.passes.items;
+  noted : steps_under l.initial.passes.items + begun_with l.passes.items + noted_under l.passes.items ≡ begun_with
+      l.initial.passes.items + noted_under l.initial.passes.items + steps_under l.passes.items;
   steps : sum l.steps.items + steps_under l.passes.items ≡ sum l.initial.steps.items + steps_under l.initial.passes.items;
 }
 

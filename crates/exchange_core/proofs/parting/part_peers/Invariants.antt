@@ -12,9 +12,10 @@ invariant-loop-cell g l = record {
   peers_room : vec_capacity l.peers ≡ vec_capacity l.initial.peers;
   octets_room : vec_capacity l.octets ≡ vec_capacity l.initial.octets;
   steps_room : vec_capacity l.steps ≡ vec_capacity l.initial.steps;
-  octets : sum l.octets.items + (accounts_of l.peers.items).accepted ≡ vec_len l.peers * g.J.Naming.first_octets + carried (accounts_of l.peers.items);
-  steps : sum l.steps.items + (accounts_of l.peers.items).steps ≡ vec_len l.peers * g.J.Naming.first_steps;
-  within : (accounts_of l.peers.items).accepted ≤ vec_len l.peers * g.J.Naming.first_octets;
+  octets : sum l.octets.items + (accounts_of l.peers.items).accepted ≡ vec_len l.peers * g.J.LedgerSet.first_octets
+      + carried (accounts_of l.peers.items);
+  steps : sum l.steps.items + (accounts_of l.peers.items).steps ≡ vec_len l.peers * g.J.LedgerSet.first_steps;
+  within : (accounts_of l.peers.items).accepted ≤ vec_len l.peers * g.J.LedgerSet.first_octets;
   quelched : (accounts_of l.peers.items).quelched ≤ (accounts_of l.peers.items).dropped;
 }
 

@@ -6,9 +6,9 @@ use crate::tests::steps_by_hand::lines::{COUNT, LINES, Line};
 use crate::tests::steps_by_hand::made::{Given, Gone, Made};
 use crate::tests::steps_by_hand::plain::Plain;
 use call_book::{CallBook, LegName};
-use call_steps::Work;
+use call_control::Work;
 use exchange_core::{Answer, CallError, Exchange, Gate, Pass, Refusal, Retired, Settlement};
-use peer_lock::{ClosedPeer, Naming, OrderError};
+use peer_lock::{ClosedPeer, LedgerSet, OrderError};
 use seq_window::{EntryView, FrameView, Record};
 use std::process::Abort;
 use std::sync::Wait;
@@ -90,7 +90,7 @@ fn refusal_of(error: CallError) -> Refusal {
 }
 
 // Gives both a datagram of a peer.
-fn hear<R: Abort + Wait, G: Gate, J: Naming, K: Naming>(
+fn hear<R: Abort + Wait, G: Gate, J: LedgerSet, K: LedgerSet>(
     desk: &mut Desk<'_, R, G, J>,
     plain: &mut Plain<'_, K>,
     peer: u16,
@@ -111,7 +111,7 @@ fn hear<R: Abort + Wait, G: Gate, J: Naming, K: Naming>(
 }
 
 // Has both place a call to the east. A number that is too long is refused before any step.
-fn place<R: Abort + Wait, G: Gate, J: Naming, K: Naming>(
+fn place<R: Abort + Wait, G: Gate, J: LedgerSet, K: LedgerSet>(
     desk: &mut Desk<'_, R, G, J>,
     plain: &mut Plain<'_, K>,
     called: &[u8],
@@ -143,7 +143,7 @@ fn place<R: Abort + Wait, G: Gate, J: Naming, K: Naming>(
 }
 
 // Has both hang up the leg of a number, if there is one.
-fn hang_up<R: Abort + Wait, G: Gate, J: Naming, K: Naming>(
+fn hang_up<R: Abort + Wait, G: Gate, J: LedgerSet, K: LedgerSet>(
     desk: &mut Desk<'_, R, G, J>,
     plain: &mut Plain<'_, K>,
     number: u16,
@@ -174,7 +174,7 @@ fn hang_up<R: Abort + Wait, G: Gate, J: Naming, K: Naming>(
 }
 
 // Ticks a peer of both. It has four numbers.
-fn tick<R: Abort + Wait, G: Gate, J: Naming, K: Naming>(
+fn tick<R: Abort + Wait, G: Gate, J: LedgerSet, K: LedgerSet>(
     desk: &mut Desk<'_, R, G, J>,
     plain: &mut Plain<'_, K>,
     peer: u16,
@@ -194,7 +194,7 @@ fn tick<R: Abort + Wait, G: Gate, J: Naming, K: Naming>(
 }
 
 // Gives a line to both.
-fn play<R: Abort + Wait, G: Gate, J: Naming, K: Naming>(
+fn play<R: Abort + Wait, G: Gate, J: LedgerSet, K: LedgerSet>(
     desk: &mut Desk<'_, R, G, J>,
     plain: &mut Plain<'_, K>,
     line: Line,
@@ -212,7 +212,7 @@ fn play<R: Abort + Wait, G: Gate, J: Naming, K: Naming>(
 }
 
 // Asserts that both outboxes of a peer have the same datagrams. Returns how many.
-fn empty<R: Abort + Wait, G: Gate, J: Naming, K: Naming>(
+fn empty<R: Abort + Wait, G: Gate, J: LedgerSet, K: LedgerSet>(
     desk: &mut Desk<'_, R, G, J>,
     plain: &mut Plain<'_, K>,
     peer: u16,
@@ -228,7 +228,7 @@ fn empty<R: Abort + Wait, G: Gate, J: Naming, K: Naming>(
 }
 
 // Asserts that the legs of all numbers have the same status.
-fn look<R: Abort + Wait, G: Gate, J: Naming, K: Naming>(
+fn look<R: Abort + Wait, G: Gate, J: LedgerSet, K: LedgerSet>(
     desk: &mut Desk<'_, R, G, J>,
     plain: &mut Plain<'_, K>,
 ) {
@@ -239,7 +239,7 @@ fn look<R: Abort + Wait, G: Gate, J: Naming, K: Naming>(
 }
 
 /// Plays all lines from this one on, and then those before it, ten milliseconds apart. Returns how many datagrams went out.
-pub fn play_lines<R: Abort + Wait, G: Gate, J: Naming, K: Naming>(
+pub fn play_lines<R: Abort + Wait, G: Gate, J: LedgerSet, K: LedgerSet>(
     desk: &mut Desk<'_, R, G, J>,
     plain: &mut Plain<'_, K>,
     start: usize,
@@ -269,7 +269,7 @@ struct Sums {
 }
 
 // Returns the counts of a settlement.
-fn sums_of<J: Naming>(settlement: &Settlement<J>) -> Sums {
+fn sums_of<J: LedgerSet>(settlement: &Settlement<J>) -> Sums {
     Sums {
         accepted: settlement.accepted,
         packed: settlement.packed,
@@ -281,7 +281,7 @@ fn sums_of<J: Naming>(settlement: &Settlement<J>) -> Sums {
 }
 
 // Returns the counts of a closed peer, without the octets that passes dropped.
-fn own_sums_of<J: Naming>(peer: &ClosedPeer<J>) -> Sums {
+fn own_sums_of<J: LedgerSet>(peer: &ClosedPeer<J>) -> Sums {
     Sums {
         accepted: peer.accepted(),
         packed: peer.packed(),
@@ -310,7 +310,7 @@ impl Sums {
 }
 
 // Asserts that two closed peers have the same legs and accounts.
-fn compare_peers<J: Naming, K: Naming>(
+fn compare_peers<J: LedgerSet, K: LedgerSet>(
     rt: &impl Abort,
     one: &ClosedPeer<J>,
     other: &ClosedPeer<K>,
@@ -332,7 +332,7 @@ fn next_name(book: &mut CallBook, peer: u16) -> Option<LegName> {
 }
 
 // Asserts that two books give the same names, and the same partners to the legs of a peer.
-fn compare_books<J: Naming>(
+fn compare_books<J: LedgerSet>(
     rt: &impl Abort,
     one: &mut CallBook,
     other: &mut CallBook,
@@ -354,7 +354,7 @@ fn compare_books<J: Naming>(
 }
 
 /// Settles the exchange. Asserts that its legs, accounts and names equal those of the driver.
-pub fn compare_ends<R: Abort, G: Gate, J: Naming, K: Naming>(
+pub fn compare_ends<R: Abort, G: Gate, J: LedgerSet, K: LedgerSet>(
     rt: &R,
     exchange: Exchange<G, J>,
     passes: Vec<Pass<J>>,

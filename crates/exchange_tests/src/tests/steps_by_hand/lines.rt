@@ -1,6 +1,6 @@
 //! The lines of six worked calls, joined. Their plan has no secrets.
 use crate::tests::desk::{EAST_PLACE, WEST_PLACE};
-use test_plans::frames::{EAST_ACCEPT, EAST_ANSWER, WEST_ACK, WEST_NEW};
+use layer_tests::frames::{EAST_ACCEPT, EAST_ANSWER, WEST_ACK, WEST_NEW};
 
 /// One input of an exchange.
 #[derive(Clone, Copy)]

@@ -1,7 +1,7 @@
 //! The arguments and the results of the calls that the driver without locks makes.
 
 use call_book::LegName;
-use call_steps::Reply;
+use call_control::Reply;
 use exchange_core::{Refusal, Rejection};
 use peer_lock::{LegFacts, OrderError, PeerError};
 use seq_window::Record;

@@ -8,11 +8,11 @@ ghost use Rattle.peer_lock.specs.Unworked.{IsCutFrame};
 use crate::tests::steps_by_hand::made::{Given, Gone};
 use crate::tests::steps_by_hand::plain::Plain;
 use call_book::LegName;
-use call_steps::{Act, Heard, Need, Reply, Work};
+use call_control::{Act, Heard, Need, Reply, Work};
 use iax_frames::{Datagram, Full, read};
 use info_elements::elements;
 use leg_machine::{Caller, Formats, Message, Order};
-use peer_lock::{Naming, Offer, Onwards, OpenError, OrderError, PeerError, RejectError};
+use peer_lock::{LedgerSet, Offer, Onwards, OpenError, OrderError, PeerError, RejectError};
 use peer_plan::Plan;
 use std::process::Abort;
 
@@ -82,7 +82,7 @@ fn octets_in(rt: &impl Abort, order: &Order<'_>) -> u64
     }
 }
 
-impl<J: Naming> Plain<'_, J> {
+impl<J: LedgerSet> Plain<'_, J> {
     // Gives a datagram to its peer.
     fn hears(&mut self, peer: u16, given: &Given<'_>) -> Result<Heard, PeerError> {
         let mut onwards = Onwards::new(self.alloc);

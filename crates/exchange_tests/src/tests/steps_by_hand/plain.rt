@@ -5,21 +5,21 @@ use crate::tests::steps_by_hand::made::{Given, Gone, Made};
 use crate::tests::steps_by_hand::peer_steps::formats_of;
 use call_auth::Challenge;
 use call_book::{CallBook, Lease, LegName};
-use call_steps::{Need, Reply, Route, Work};
+use call_control::{Need, Reply, Route, Work};
 use iax_frames::Out;
-use peer_lock::{ClosedPeer, Naming, Offer, Pass, PeerState, Status};
+use peer_lock::{ClosedPeer, LedgerSet, Offer, Pass, PeerState, Status};
 use peer_plan::Plan;
 use std::alloc::Global;
 use std::process::Abort;
 
 /// The two peers of a plan.
 #[derive(Drop)]
-pub struct Peers<J: Naming> {
+pub struct Peers<J: LedgerSet> {
     pub west: PeerState<J>,
     pub east: PeerState<J>,
 }
 
-impl<J: Naming> Peers<J> {
+impl<J: LedgerSet> Peers<J> {
     /// Returns the peer at a place.
     pub fn at(&mut self, peer: u16) -> &mut PeerState<J> {
         if peer == WEST_PLACE {
@@ -32,7 +32,7 @@ impl<J: Naming> Peers<J> {
 
 /// The peers of a plan, their book and a pass, without locks.
 #[derive(Drop)]
-pub struct Plain<'p, J: Naming> {
+pub struct Plain<'p, J: LedgerSet> {
     pub alloc: Global,
     pub plan: &'p Plan,
     pub challenge: Challenge,
@@ -45,7 +45,7 @@ pub struct Plain<'p, J: Naming> {
     pub leaving: Option<Gone>,
 }
 
-impl<J: Naming> Plain<'_, J> {
+impl<J: LedgerSet> Plain<'_, J> {
     // Finds where the call of a leg leads.
     fn routes(&self, rt: &impl Abort, offered: LegName, offer: Option<&Offer>) -> Route {
         let Some(offer) = offer else {

@@ -7,7 +7,8 @@ use crate::tests::two_peers::Progress;
 use crate::tests::wires::memory_wire::{MemoryWire, wire_of};
 use call_auth::Challenge;
 use exchange_core::{Exchange, Gate, Pass};
-use peer_lock::Naming;
+use layer_tests::plans::TWO_WORKERS;
+use peer_lock::LedgerSet;
 use peer_plan::Plan;
 use std::alloc::Global;
 use std::process::Abort;
@@ -15,8 +16,7 @@ use std::sync::Wait;
 use std::sync::atomic::Ordering;
 use std::test::*;
 use std::thread::Threads;
-use test_plans::plans::TWO_WORKERS;
-use udp_workers::{Challenges, Moments, Post, Seat, Worker, run_all};
+use udp_workers::{Challenges, Moments, PlanBrand, Seat, Worker, run_all};
 
 /// Moment 0.
 #[derive(Drop)]
@@ -42,7 +42,7 @@ impl Challenges for Zero {
 type TestSeat<J, P> = Seat<MemoryWire, AtOnce, Zero, J, P>;
 
 // Returns the seat of the worker at a place of a plan, over a wire in memory.
-fn seat_of<J: Naming, P: Post>(
+fn seat_of<J: LedgerSet, P: PlanBrand>(
     rt: &impl Abort,
     alloc: Global,
     plan: &Plan,
@@ -59,7 +59,7 @@ fn seat_of<J: Naming, P: Post>(
 }
 
 // Returns the seats of the workers of a plan, in its order, each with a separate pass.
-fn seats_of<J: Naming, P: Post>(
+fn seats_of<J: LedgerSet, P: PlanBrand>(
     rt: &impl Abort,
     alloc: Global,
     plan: &Plan,
@@ -77,7 +77,7 @@ fn seats_of<J: Naming, P: Post>(
 }
 
 // Returns the number of turns that the workers of these seats made. Their passes are returned.
-fn turns_of<J: Naming, P: Post>(
+fn turns_of<J: LedgerSet, P: PlanBrand>(
     rt: &impl Abort,
     seats: Vec<TestSeat<J, P>>,
     passes: &mut Vec<Pass<J>>,
@@ -92,12 +92,12 @@ fn turns_of<J: Naming, P: Post>(
 }
 
 /// Makes one turn of each worker. Returns the number of workers that made theirs.
-pub fn turn_on<G: Gate + Sync, J: Naming, P: Post + Send + Sync, R: Abort + Threads + Wait + Sync>(
-    rt: &R,
-    alloc: Global,
-    exchange: &Exchange<G, J>,
-    passes: &mut Vec<Pass<J>>,
-) -> u64
+pub fn turn_on<
+    G: Gate + Sync,
+    J: LedgerSet,
+    P: PlanBrand + Send + Sync,
+    R: Abort + Threads + Wait + Sync,
+>(rt: &R, alloc: Global, exchange: &Exchange<G, J>, passes: &mut Vec<Pass<J>>) -> u64
     requires { exchange.now ≡ P.plan }
 {
     let mut seats = seats_of::<J, P>(rt, alloc, exchange.plan(), passes);

@@ -10,12 +10,12 @@ use crate::tests::wires::both_at_once::{AtOnce, Zero};
 use crate::tests::wires::memory_wire::{MemoryWire, wire_of};
 use call_auth::Challenge;
 use exchange_core::{Exchange, Gate, NoGate, Pass};
-use peer_lock::{Losses, Naming};
+use layer_tests::plans::{NO_TRUNKS, SILENT_THIRD};
+use peer_lock::{LedgerSet, Losses};
 use std::alloc::{AllocError, Global};
 use std::process::Abort;
 use std::sync::Wait;
 use std::test::*;
-use test_plans::plans::{NO_TRUNKS, SILENT_THIRD};
 use udp_workers::{Intake, Unwatched, Worker};
 
 // The number of trunk frames that come at once.
@@ -50,7 +50,7 @@ fn trunk_frame(alloc: Global) -> Result<Vec<u8>, AllocError> {
 }
 
 // Plays until the call is up, and voice was sent to the west in a full frame.
-fn play_up<G: Gate, J: Naming, R: Wait>(
+fn play_up<G: Gate, J: LedgerSet, R: Wait>(
     rt: &R,
     exchange: &Exchange<G, J>,
     pass: &mut Pass<J>,
@@ -72,7 +72,7 @@ fn play_up<G: Gate, J: Naming, R: Wait>(
 }
 
 /// Gives the only worker of a plan 64 trunk frames at once, while a call is up.
-pub fn play_burst<G: Gate, J: Naming, R: Abort + Wait>(
+pub fn play_burst<G: Gate, J: LedgerSet, R: Abort + Wait>(
     rt: &R,
     alloc: Global,
     burst: Burst,
@@ -121,7 +121,8 @@ pub fn play_burst<G: Gate, J: Naming, R: Abort + Wait>(
 // The kind of turns; the number of received datagrams and of steps; and the octets of media that are packed and dropped.
 // All turns have one moment.
 static ROWS: [(Burst, u64, u64, u64, u64); 6] = [
-    // Twelve frames of 1,280 octets of media fit 16,384. Each is a step at the east and eight at the west, and then all three peers
+    // Twelve frames of 1,280 octets of media fit 16,384. Each is a step at the east and eight at the west, and then all three
+    // peers
     // are ticked.
     (Burst::Bounded(1), 12, 12 * 9 + 3, 12 * 1280, 0),
     // The silent peer isn't ticked again, the others are.

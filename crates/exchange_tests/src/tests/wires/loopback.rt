@@ -8,15 +8,15 @@ use crate::tests::opened::{Play, play_with};
 use crate::tests::same::{holds, same};
 use call_auth::Challenge;
 use exchange_core::{Exchange, Gate, NoGate, Pass};
+use layer_tests::plans::ONE_WORKER;
 use mio::net::UdpSocket;
-use peer_lock::Naming;
+use peer_lock::LedgerSet;
 use peer_plan::{Endpoint, Plan};
 use std::alloc::Global;
 use std::net::{IpAddr, Ipv4Addr, Net, SocketAddr};
 use std::process::Abort;
 use std::sync::Wait;
 use std::test::*;
-use test_plans::plans::ONE_WORKER;
 use udp_wires::{MioWire, Sharing, Wire};
 use udp_workers::Worker;
 
@@ -45,7 +45,7 @@ fn hears(socket: &UdpSocket, wanted: &[u8]) -> bool {
 }
 
 // Makes turns of a worker, 200 at most, until the socket receives the REJECT.
-fn turn_until_rejected<G: Gate, J: Naming, R: Wait>(
+fn turn_until_rejected<G: Gate, J: LedgerSet, R: Wait>(
     rt: &R,
     exchange: &Exchange<G, J>,
     pass: &mut Pass<J>,
@@ -104,7 +104,7 @@ pub struct Rejection {
 }
 
 /// Runs the only worker of a plan for one caller, under the exchange's first pass.
-pub fn call_first<G: Gate, J: Naming, R: Abort + Net + Wait>(
+pub fn call_first<G: Gate, J: LedgerSet, R: Abort + Net + Wait>(
     rt: &R,
     alloc: Global,
     exchange: &Exchange<G, J>,

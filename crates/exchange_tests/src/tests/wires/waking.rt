@@ -10,14 +10,14 @@ use crate::tests::wires::both_at_once::{AtOnce, Zero};
 use crate::tests::wires::memory_wire::{MemoryWire, wire_of};
 use call_auth::Challenge;
 use exchange_core::{Exchange, Gate, NoGate, Pass, Retired};
-use peer_lock::Naming;
+use layer_tests::plans::TWO_WORKERS;
+use peer_lock::LedgerSet;
 use peer_plan::Plan;
 use std::alloc::Global;
 use std::process::Abort;
 use std::sync::Wait;
 use std::sync::atomic::{AtomicU64, Ordering};
 use std::test::*;
-use test_plans::plans::TWO_WORKERS;
 use udp_workers::{Event, Intake, ServiceStage, Watch, Worker};
 
 // A mini frame of voice from the east.
@@ -69,14 +69,14 @@ impl Watch for Wakes {
 
 // A worker with what its turns need.
 #[derive(Drop)]
-struct Side<J: Naming> {
+struct Side<J: LedgerSet> {
     worker: Worker,
     wire: MemoryWire,
     pass: Pass<J>,
 }
 
 // Returns the worker at a place of a plan.
-fn side_of<J: Naming>(
+fn side_of<J: LedgerSet>(
     rt: &impl Abort,
     alloc: Global,
     plan: &Plan,
@@ -93,7 +93,7 @@ fn side_of<J: Naming>(
 }
 
 // A datagram comes to a worker.
-fn take<G: Gate, J: Naming, R: Abort + Wait>(
+fn take<G: Gate, J: LedgerSet, R: Abort + Wait>(
     rt: &R,
     exchange: &Exchange<G, J>,
     side: &mut Side<J>,
@@ -122,7 +122,7 @@ fn take<G: Gate, J: Naming, R: Abort + Wait>(
 }
 
 // Plays until the call is up, and voice was sent to the west in a full frame.
-fn bring_up<G: Gate, J: Naming, R: Abort + Wait>(
+fn bring_up<G: Gate, J: LedgerSet, R: Abort + Wait>(
     rt: &R,
     exchange: &Exchange<G, J>,
     west: &mut Side<J>,
@@ -147,7 +147,7 @@ fn bring_up<G: Gate, J: Naming, R: Abort + Wait>(
 
 /// Has the second worker take five mini frames for a peer of the first in one turn. Returns how often each was woken, the
 /// first worker's count first.
-pub fn play_waking<G: Gate, J: Naming, R: Abort + Wait>(
+pub fn play_waking<G: Gate, J: LedgerSet, R: Abort + Wait>(
     rt: &R,
     alloc: Global,
     exchange: &Exchange<G, J>,

@@ -9,7 +9,8 @@ use crate::tests::same::{holds, same};
 use crate::tests::wires::memory_wire::{MemoryWire, wire_of};
 use call_auth::Challenge;
 use exchange_core::{Exchange, Gate, NoGate, Pass};
-use peer_lock::Naming;
+use layer_tests::plans::ONE_WORKER;
+use peer_lock::LedgerSet;
 use std::alloc::Global;
 use std::net::Net;
 use std::process::Abort;
@@ -17,7 +18,6 @@ use std::sync::Wait;
 use std::test::*;
 use std::thread::Threads;
 use std::time::Clock;
-use test_plans::plans::ONE_WORKER;
 use udp_wires::Wire;
 use udp_workers::{TurnReport, Worker};
 
@@ -48,7 +48,7 @@ fn sum_of(one: TurnReport, other: TurnReport) -> TurnReport {
 }
 
 // Makes one turn for each arrival, at its moment.
-fn play_arrivals<G: Gate, J: Naming, R: Wait>(
+fn play_arrivals<G: Gate, J: LedgerSet, R: Wait>(
     rt: &R,
     exchange: &Exchange<G, J>,
     pass: &mut Pass<J>,
@@ -80,7 +80,7 @@ fn play_arrivals<G: Gate, J: Naming, R: Wait>(
 }
 
 /// Plays the call over a wire in memory that fails at its call of this place, with the exchange's first pass; at 0 never.
-pub fn play_call<G: Gate, J: Naming, R: Abort + Wait>(
+pub fn play_call<G: Gate, J: LedgerSet, R: Abort + Wait>(
     rt: &R,
     alloc: Global,
     fails_at: u64,

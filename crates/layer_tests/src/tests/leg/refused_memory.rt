@@ -3,6 +3,7 @@
 //! Each test passes whichever request is refused, and if none is. A refused call changes nothing, and the same call then
 //! has the result that it would have had. `.ci/refusals` refuses the requests one at a time.
 
+use crate::frames::NEW_300;
 use crate::tests::leg::lines::{ANSWERING, Event, Handed, Line};
 use crate::tests::leg::{Tested, Wish, leg_of};
 use crate::tests::same::{Place, same, same_at};
@@ -11,7 +12,6 @@ use leg_machine::{Judged, Stage};
 use seq_window::{Acknowledged, Received, Window};
 use std::alloc::Global;
 use std::process::Abort;
-use test_plans::frames::NEW_300;
 
 /// A digit and media come, a digit and media are sent, and the call is hung up.
 static TALK: [Line; 5] = [

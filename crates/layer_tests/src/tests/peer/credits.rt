@@ -1,6 +1,7 @@
 //! A peer's credit, which it gets when it is made; and steps and octets that run out.
 ghost use Rattle.std.specs.Prelude.{◌≡◌};
 
+use crate::frames::NEW_300;
 use crate::tests::leg::Wish;
 use crate::tests::peer::desk::{Desk, Lent, OCTETS, STEPS, book_of, shares_of, state_of};
 use crate::tests::peer::steps::Step;
@@ -11,7 +12,6 @@ use std::alloc::Global;
 use std::marker::Brand;
 use std::process::Abort;
 use std::sync::ledger::Ledger;
-use test_plans::frames::NEW_300;
 
 /// The events of a peer.
 #[derive(Clone, Copy)]

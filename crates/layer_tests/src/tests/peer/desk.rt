@@ -10,7 +10,7 @@ use iax_frames::{Datagram, Full, read};
 use info_elements::elements;
 use leg_machine::Message;
 use media_ledger::{Blank, Share, supply};
-use peer_lock::{Naming, Onwards, OpenError, Pass, PeerError, PeerState, Status, Step};
+use peer_lock::{LedgerSet, Onwards, OpenError, Pass, PeerError, PeerState, Status, Step};
 use std::alloc::Global;
 use std::marker::PhantomData;
 use std::process::Abort;
@@ -22,13 +22,13 @@ pub const OCTETS: u64 = 3;
 /// The steps that it begins with.
 pub const STEPS: u64 = 16;
 
-/// The naming of the tests.
+/// The ledgers of the tests.
 pub struct Lent<O, S> {
     pub octets: PhantomData<O>,
     pub steps: PhantomData<S>,
 }
 
-impl<O: Ledger + Send + Sync, S: Ledger + Send + Sync> Naming for Lent<O, S> {
+impl<O: Ledger + Send + Sync, S: Ledger + Send + Sync> LedgerSet for Lent<O, S> {
     type Octets = O;
 
     type Steps = S;
@@ -40,7 +40,7 @@ impl<O: Ledger + Send + Sync, S: Ledger + Send + Sync> Naming for Lent<O, S> {
 
 /// A peer, with the book, the one pass, and the list of signals.
 #[derive(Drop)]
-pub struct Desk<J: Naming> {
+pub struct Desk<J: LedgerSet> {
     pub alloc: Global,
     pub book: CallBook,
     pub state: PeerState<J>,
@@ -68,7 +68,7 @@ pub fn shares_of<L: Ledger>(
 
 /// Returns a peer of four numbers, without a leg. If memory is refused, the call is repeated with the shares that came
 /// back.
-pub fn state_of<J: Naming>(
+pub fn state_of<J: LedgerSet>(
     rt: &impl Abort,
     alloc: Global,
     octets: Share<J::Octets>,
@@ -126,7 +126,7 @@ pub fn opening_of(octets: &[u8]) -> Option<Full<'_>>
 /// The visible state of a peer's first leg, and the octets and steps of the pass.
 pub type Look = (Option<Status>, u64, u64);
 
-impl<J: Naming> Desk<J> {
+impl<J: LedgerSet> Desk<J> {
     /// Gives a datagram to the peer.
     pub fn takes(&mut self, octets: &[u8], time: u64) -> Result<Step, PeerError> {
         self.onwards.clear();

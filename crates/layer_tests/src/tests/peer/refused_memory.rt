@@ -2,12 +2,12 @@
 //!
 //! The test passes whichever request is refused, and if none is. A refused call changes nothing, and the same call then has
 //! the result that it would have had. `.ci/refusals` refuses the requests one at a time.
+use crate::frames::NEW_300;
 use crate::tests::leg::Wish;
 use crate::tests::peer::credits::{Case, plays};
 use crate::tests::peer::steps::Step;
 use crate::tests::same::holds;
 use leg_machine::{Judged, Stage};
-use test_plans::frames::NEW_300;
 
 /// A whole call of the peer. It is accepted and answered; a digit and media come; the same digit is sent, and an octet of
 /// media, for which there is credit.

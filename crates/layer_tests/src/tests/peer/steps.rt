@@ -9,7 +9,7 @@ use call_auth::Challenge;
 use call_book::{Lease, LegName};
 use iax_frames::Full;
 use leg_machine::{Judged, MediaSpan, Order, Signal, Stage};
-use peer_lock::{Naming, OpenError, OrderError, PeerError, Step as Stepped};
+use peer_lock::{LedgerSet, OpenError, OrderError, PeerError, Step as Stepped};
 use std::process::Abort;
 
 /// An event of a peer and its result, or a part of its visible state. The leg is the one under number 1.
@@ -45,7 +45,7 @@ fn octets_in(order: &Order<'_>) -> u64
     }
 }
 
-impl<J: Naming> Desk<J> {
+impl<J: LedgerSet> Desk<J> {
     ghost use Rattle.std.specs.Prelude.{◌≤◌, OnErr};
     ghost use Rattle.leg_machine.specs.OrderTable.{IsShortMedia};
     ghost use Rattle.peer_lock.specs.Openings.{IsOpening};

@@ -21,4 +21,5 @@ pub returns-clause-calls_out : goal.returns-clause-calls_out
 returns-clause-calls_out c old new name sends sound other = call_out_events old new name sends sound other
 
 pub returns-clause-sendings : goal.returns-clause-sendings
-returns-clause-sendings c rules leg goes own other side datagrams sends = datagrams_out rules leg goes other own datagrams side sends
+returns-clause-sendings c rules leg goes own other side datagrams sends = datagrams_out rules leg goes other own datagrams side
+    sends

@@ -12,7 +12,8 @@ returns-clause-calls_in c peer name frame now challenge free =
 
 pub returns-clause-calls_out : goal.returns-clause-calls_out
 returns-clause-calls_out c peer name called caller format now free =
-    call_out_side c.steps_take_turns.ensures.calls_out c.steps_send_as_sides.ensures.calls_out peer name called caller format now free
+    call_out_side c.steps_take_turns.ensures.calls_out c.steps_send_as_sides.ensures.calls_out peer name called caller format now
+    free
 
 pub returns-clause-orders : goal.returns-clause-orders
 returns-clause-orders c peer credit name order now sound none =

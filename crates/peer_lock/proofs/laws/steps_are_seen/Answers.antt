@@ -14,7 +14,8 @@ returns-clause-calls_out c peer name called caller format now are free =
     call_out_seen c.steps_are_seen.ensures.calls_out peer name called caller format now free
 
 pub returns-clause-orders : goal.returns-clause-orders
-returns-clause-orders c peer credit name order now are none = order_seen c.steps_are_seen.ensures.orders peer credit name order now none
+returns-clause-orders c peer credit name order now are none = order_seen c.steps_are_seen.ensures.orders peer credit name order
+    now none
 
 pub returns-clause-refusals : goal.returns-clause-refusals
 returns-clause-refusals c peer credit name order now error are refused wants =

@@ -10,6 +10,10 @@ returns-in-Ok c = rw (is_utf8-from_IsUtf8 c.args.text.now c.in-Ok.ensures.ok.0, 
 pub returns-else-is_memory : goal.returns-else-is_memory
 returns-else-is_memory c =
     elim (cases_Bool (is_utf8 c.args.text.now)) [
-      | inl utf8 ↦ rw (utf8, c.in-Err.ensures.refused (λ m. false≢true (sym c.if-is_memory.false ∙ c.is_memory.ensures.1 m)) (IsUtf8-from_is_utf8 _ utf8)) refl
+      | inl utf8 ↦ rw (
+        utf8,
+        c.in-Err.ensures.refused (λ m. false≢true (sym c.if-is_memory.false ∙ c.is_memory.ensures.1 m))
+            (IsUtf8-from_is_utf8 _ utf8),
+      ) refl
       | inr other ↦ rw other refl
     ]

@@ -8,7 +8,8 @@ pub octets-preserved : goal.octets-preserved
 octets-preserved c =
     let octet : ℕ = slice_index c.args.octets.now c.octets.i in
     let low = c.digit-in-octets.ensures ∙ ap (λ (k : ℕ). slice_index lower_digits k) (and_mask octet 4) in
-    encode_step lower_digits c.args.octets.now c.octets.digits c.octets.i _ _ (omega arith) (omega arith) c.digit.ensures low c.octets.invariant
+    encode_step lower_digits c.args.octets.now c.octets.digits c.octets.i _ _ (omega arith) (omega arith) c.digit.ensures low
+    c.octets.invariant
 
 pub returns : goal.returns
 returns c =

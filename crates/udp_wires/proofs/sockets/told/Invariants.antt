@@ -7,4 +7,5 @@ use Rattle.udp_wires.proofs.sockets.told.Given as goal
 -- a place in the set, or in the remaining events, is in the set at the end
 abbrev pub invariant-loop-event : goal.invariant-loop-event
 invariant-loop-event l = (place : ℕ) → place < 64
-    → (Has l.ready place ⊎ Any (λ event. (event_token event).0 ≡ place) l.event-iterator.rest.now) ↔ (Has l.fn.ready place ⊎ Any (λ event. (event_token event).0 ≡ place) (items l.events))
+    → (Has l.ready place ⊎ Any (λ event. (event_token event).0 ≡ place) l.event-iterator.rest.now)
+    ↔ (Has l.fn.ready place ⊎ Any (λ event. (event_token event).0 ≡ place) (items l.events))

@@ -11,5 +11,10 @@ overflow_add-weight-in-Some c =
 pub loop-entry-preserved : goal.loop-entry-preserved
 loop-entry-preserved c =
     let entry = c.in-Some.entry in
-    let one = one_weighed c.loop-entry.left c.next.new.self (entry.0, entry.1, entry.2.now) c.in-Some.ensures.steps in
-    (tt, tt, omega (arith, one.0, c.loop-entry.invariant.2), omega (arith, one.1, c.loop-entry.invariant.3), c.loop-entry.invariant.4)
+    let one = one_weighed c.loop-entry.left c.next.new.self (entry.0, entry.1, entry.2.now) c.in-Some.ensures.steps in (
+      tt,
+      tt,
+      omega (arith, one.0, c.loop-entry.invariant.2),
+      omega (arith, one.1, c.loop-entry.invariant.3),
+      c.loop-entry.invariant.4,
+    )

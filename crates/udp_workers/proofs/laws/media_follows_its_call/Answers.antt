@@ -1,4 +1,5 @@
-use Rattle.udp_workers.proofs.CarryingLaws.{all_carry, call_carries, calls_carry_none, hang_ups_carry_none, heard_carries, ticks_carry_none}
+use Rattle.udp_workers.proofs.CarryingLaws.{all_carry, call_carries, calls_carry_none, hang_ups_carry_none, heard_carries}
+use Rattle.udp_workers.proofs.CarryingLaws.{ticks_carry_none}
 use Rattle.udp_workers.proofs.laws.media_follows_its_call.Goals as goal
 
 pub returns-clause-call : goal.returns-clause-call

@@ -4,7 +4,8 @@ use Rattle.udp_wires.specs.Parcels.{Parcel}
 use Rattle.udp_workers.specs.Intake.{Fills, InboxView, IsLoaded, TakesIn, TurnView}
 use Rattle.udp_workers.specs.declared.report.TurnReport.{TurnReport}
 use Rattle.udp_workers.proofs.HandingLaws.{gives_none, gives_on}
-use Rattle.udp_workers.proofs.IntakeLaws.{TakesSoFar, at_error, not_there, takes_64, takes_no_more, takes_none, takes_one, takes_what_fits}
+use Rattle.udp_workers.proofs.IntakeLaws.{TakesSoFar, at_error, not_there, takes_64, takes_no_more, takes_none, takes_one}
+use Rattle.udp_workers.proofs.IntakeLaws.{takes_what_fits}
 use Rattle.udp_workers.proofs.TickLaws.{later_on, later_same}
 use Rattle.udp_workers.proofs.receiving.receive_all.Goals as goal
 
@@ -16,11 +17,17 @@ returns-then-is_err-clause-takes g c =
     let seen = g.W.Wire.came l.wire in
     let now = g.W.Wire.came c.fill.new.wire in
     let view : TurnView = record { stage = turn.stage; now = turn.time; challenge = turn.challenge.now } in
-    let none = sym (at_error c.fill.result (c.fill.new.self.datagram ≡ None) c.fill.ensures.fault (sym c.is_err.ensures.value ∙ c.if-is_err.true)) in
-    let so_far = subst (λ (n : ℕ). TakesSoFar turn.intake turn.exchange.now view c.args.inbox.now.datagram l.inbox.datagram l.taken l.counter c.args.tally.now.report.received n c.args.pass.now l.pass came seen) (sym (ap (λ (report : TurnReport). report.received) c.tell.ensures.counted)) l.invariant.takes in
-    subst (λ left. TakesIn turn.intake turn.exchange.now view c.args.inbox.now.datagram left c.args.tally.now.report.received c.tell.new.self.report.received c.args.pass.now l.pass came now) none
-    (takes_no_more turn.intake turn.exchange.now view c.args.inbox.now.datagram c.args.tally.now.report.received c.args.pass.now came l.inbox.datagram l.taken l.counter c.tell.new.self.report.received l.pass seen now
-    so_far (subst (λ here. Fills l.inbox.datagram here seen now) (sym none) c.fill.ensures.fills) (λ some. none ∙ ap (λ (inbox : InboxView). inbox.datagram) (c.fill.ensures.kept some)) (omega arith))
+    let none = sym (at_error c.fill.result (c.fill.new.self.datagram ≡ None) c.fill.ensures.fault
+    (sym c.is_err.ensures.value ∙ c.if-is_err.true)) in
+    let so_far = subst (λ (n : ℕ). TakesSoFar turn.intake turn.exchange.now view c.args.inbox.now.datagram l.inbox.datagram
+    l.taken l.counter c.args.tally.now.report.received n c.args.pass.now l.pass came seen)
+    (sym (ap (λ (report : TurnReport). report.received) c.tell.ensures.counted)) l.invariant.takes in
+    subst (λ left. TakesIn turn.intake turn.exchange.now view c.args.inbox.now.datagram left c.args.tally.now.report.received
+    c.tell.new.self.report.received c.args.pass.now l.pass came now) none
+    (takes_no_more turn.intake turn.exchange.now view c.args.inbox.now.datagram c.args.tally.now.report.received c.args.pass.now
+    came l.inbox.datagram l.taken l.counter c.tell.new.self.report.received l.pass seen now
+    so_far (subst (λ here. Fills l.inbox.datagram here seen now) (sym none) c.fill.ensures.fills)
+    (λ some. none ∙ ap (λ (inbox : InboxView). inbox.datagram) (c.fill.ensures.kept some)) (omega arith))
 
 pub returns-in_default-clause-takes : goal.returns-in_default-clause-takes
 returns-in_default-clause-takes g c =
@@ -30,10 +37,14 @@ returns-in_default-clause-takes g c =
     let seen = g.W.Wire.came l.wire in
     let now = g.W.Wire.came c.fill.new.wire in
     let view : TurnView = record { stage = turn.stage; now = turn.time; challenge = turn.challenge.now } in
-    let none : None ≡ c.fill.new.self.datagram = not_there c.fill.new.self.datagram c.datagram.result c.datagram.ensures c.in_default.is in
-    subst (λ left. TakesIn turn.intake turn.exchange.now view c.args.inbox.now.datagram left c.args.tally.now.report.received l.tally.report.received c.args.pass.now l.pass came now) none
-    (takes_no_more turn.intake turn.exchange.now view c.args.inbox.now.datagram c.args.tally.now.report.received c.args.pass.now came l.inbox.datagram l.taken l.counter l.tally.report.received l.pass seen now
-    l.invariant.takes (subst (λ here. Fills l.inbox.datagram here seen now) (sym none) c.fill.ensures.fills) (λ some. none ∙ ap (λ (inbox : InboxView). inbox.datagram) (c.fill.ensures.kept some)) (omega arith))
+    let none : None ≡ c.fill.new.self.datagram = not_there c.fill.new.self.datagram c.datagram.result c.datagram.ensures
+    c.in_default.is in
+    subst (λ left. TakesIn turn.intake turn.exchange.now view c.args.inbox.now.datagram left c.args.tally.now.report.received
+    l.tally.report.received c.args.pass.now l.pass came now) none
+    (takes_no_more turn.intake turn.exchange.now view c.args.inbox.now.datagram c.args.tally.now.report.received c.args.pass.now
+    came l.inbox.datagram l.taken l.counter l.tally.report.received l.pass seen now
+    l.invariant.takes (subst (λ here. Fills l.inbox.datagram here seen now) (sym none) c.fill.ensures.fills)
+    (λ some. none ∙ ap (λ (inbox : InboxView). inbox.datagram) (c.fill.ensures.kept some)) (omega arith))
 
 pub returns-in_default-loaded-clause-takes : goal.returns-in_default-loaded-clause-takes
 returns-in_default-loaded-clause-takes g c =
@@ -46,8 +57,10 @@ returns-in_default-loaded-clause-takes g c =
     let arrival : Parcel = record { endpoint = c.in-Some.from; octets = c.in-Some.octets.now } in
     let here : Some arrival ≡ c.fill.new.self.datagram = c.in-Some.ensures in
     let full = subst (IsLoaded turn.intake l.taken arrival.octets) c.in_default-loaded.is c.loaded.ensures in
-    subst (λ left. TakesIn turn.intake turn.exchange.now view c.args.inbox.now.datagram left c.args.tally.now.report.received l.tally.report.received c.args.pass.now l.pass came now) here
-    (takes_what_fits turn.intake turn.exchange.now view c.args.inbox.now.datagram c.args.tally.now.report.received c.args.pass.now came l.inbox.datagram l.taken arrival l.counter l.tally.report.received l.pass seen now
+    subst (λ left. TakesIn turn.intake turn.exchange.now view c.args.inbox.now.datagram left c.args.tally.now.report.received
+    l.tally.report.received c.args.pass.now l.pass came now) here
+    (takes_what_fits turn.intake turn.exchange.now view c.args.inbox.now.datagram c.args.tally.now.report.received c.args.pass.now
+    came l.inbox.datagram l.taken arrival l.counter l.tally.report.received l.pass seen now
     l.invariant.takes (subst (λ left. Fills l.inbox.datagram left seen now) (sym here) c.fill.ensures.fills) full (omega arith))
 
 pub returns-clause-takes : goal.returns-clause-takes
@@ -58,8 +71,10 @@ returns-clause-takes g c =
     let seen = g.W.Wire.came l.wire in
     let view : TurnView = record { stage = turn.stage; now = turn.time; challenge = turn.challenge.now } in
     let all : l.counter ≡ 64 = omega arith in
-    takes_64 turn.intake turn.exchange.now view c.args.inbox.now.datagram c.args.tally.now.report.received c.args.pass.now came l.inbox.datagram l.taken l.tally.report.received l.pass seen
-    (subst (λ (n : ℕ). TakesSoFar turn.intake turn.exchange.now view c.args.inbox.now.datagram l.inbox.datagram l.taken n c.args.tally.now.report.received l.tally.report.received c.args.pass.now l.pass came seen) all l.invariant.takes)
+    takes_64 turn.intake turn.exchange.now view c.args.inbox.now.datagram c.args.tally.now.report.received c.args.pass.now came
+    l.inbox.datagram l.taken l.tally.report.received l.pass seen
+    (subst (λ (n : ℕ). TakesSoFar turn.intake turn.exchange.now view c.args.inbox.now.datagram l.inbox.datagram l.taken n
+    c.args.tally.now.report.received l.tally.report.received c.args.pass.now l.pass came seen) all l.invariant.takes)
 
 pub loop-preserved : goal.loop-preserved
 loop-preserved g c =
@@ -90,17 +105,24 @@ loop-preserved g c =
       later = later_on c.args.pass.now l.pass c.hear.new.pass l.invariant.later c.hear.ensures.later;
       handed =
           gives_on (g.V.Watch.given c.args.tally.now.watch.now) c.args.pass.now l.pass c.hear.new.pass l.invariant.handed
-          (subst (λ (watch : Bor g.row.V.Denot). GivesAll (g.V.Watch.given watch.now) l.pass c.hear.new.pass) l.invariant.watch c.hear.ensures.handed);
+          (subst (λ (watch : Bor g.row.V.Denot). GivesAll (g.V.Watch.given watch.now) l.pass c.hear.new.pass) l.invariant.watch
+          c.hear.ensures.handed);
       none_lost = search rules;
       takes =
-          subst (λ left. TakesSoFar turn.intake turn.exchange.now view c.args.inbox.now.datagram left (Some c.in-Some-loaded.load) (l.counter + 1) c.args.tally.now.report.received c.hear.new.tally.report.received
+          subst (λ left. TakesSoFar turn.intake turn.exchange.now view c.args.inbox.now.datagram left (Some c.in-Some-loaded.load)
+          (l.counter + 1) c.args.tally.now.report.received c.hear.new.tally.report.received
           c.args.pass.now c.hear.new.pass came (g.W.Wire.came c.note_taken.new.self))
           (sym (ap (λ (inbox : InboxView). inbox.datagram) c.clear.ensures))
-          (subst (λ end. TakesSoFar turn.intake turn.exchange.now view c.args.inbox.now.datagram None (Some c.in-Some-loaded.load) (l.counter + 1) c.args.tally.now.report.received c.hear.new.tally.report.received
+          (subst (λ end. TakesSoFar turn.intake turn.exchange.now view c.args.inbox.now.datagram None (Some c.in-Some-loaded.load)
+          (l.counter + 1) c.args.tally.now.report.received c.hear.new.tally.report.received
           c.args.pass.now c.hear.new.pass came end) (sym c.note_taken.ensures.came)
-          (takes_one turn.intake turn.exchange.now view c.args.inbox.now.datagram c.args.tally.now.report.received c.args.pass.now came l.inbox.datagram l.taken c.in-Some-loaded.load arrival l.counter l.tally.report.received c.hear.new.tally.report.received
-          l.pass c.hear.new.pass seen now l.invariant.takes (subst (λ left. Fills l.inbox.datagram left seen now) (sym here) c.fill.ensures.fills)
-          (λ some. here ∙ ap (λ (inbox : InboxView). inbox.datagram) (c.fill.ensures.kept some)) more (record { away = λ is. (c.hear.ensures.away is).0; heard = c.hear.ensures.heard }) c.hear.ensures.received));
+          (takes_one turn.intake turn.exchange.now view c.args.inbox.now.datagram c.args.tally.now.report.received c.args.pass.now
+          came l.inbox.datagram l.taken c.in-Some-loaded.load arrival l.counter l.tally.report.received
+          c.hear.new.tally.report.received
+          l.pass c.hear.new.pass seen now l.invariant.takes (subst (λ left. Fills l.inbox.datagram left seen now) (sym here)
+          c.fill.ensures.fills)
+          (λ some. here ∙ ap (λ (inbox : InboxView). inbox.datagram) (c.fill.ensures.kept some)) more
+          (record { away = λ is. (c.hear.ensures.away is).0; heard = c.hear.ensures.heard }) c.hear.ensures.received));
     }
 
 pub loop-init : goal.loop-init

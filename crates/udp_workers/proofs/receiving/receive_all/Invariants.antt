@@ -22,11 +22,17 @@ invariant-loop g l = record {
   given_to : (to : Endpoint) → g.W.Wire.given_to l.wire to ≡ g.W.Wire.given_to l.fn.wire to;
   failures : RiseAlike (g.W.Wire.failures l.fn.wire) (g.W.Wire.failures l.wire) l.fn.tally.report.faults l.tally.report.faults;
   peers : g.W.Wire.peers l.wire ≡ g.W.Wire.peers l.fn.wire;
-  steps : l.fn.pass.credit.steps + l.tally.report.received + l.fn.tally.report.refused ≤ l.pass.credit.steps + l.tally.report.refused + l.fn.tally.report.received;
+  steps : l.fn.pass.credit.steps + l.tally.report.received + l.fn.tally.report.refused ≤ l.pass.credit.steps
+      + l.tally.report.refused + l.fn.tally.report.received;
   later : IsLater l.fn.pass l.pass;
   handed : GivesAll (g.V.Watch.given l.fn.tally.watch.now) l.fn.pass l.pass;
-  none_lost : RiseAlike l.fn.inbox.given l.inbox.given (l.fn.tally.report.received + waiting l.fn.inbox.datagram) (l.tally.report.received + waiting l.inbox.datagram);
-  takes : TakesSoFar l.turn.intake l.turn.exchange.now (record { stage = l.turn.stage; now = l.turn.time; challenge = l.turn.challenge.now })
+  none_lost : RiseAlike l.fn.inbox.given l.inbox.given (l.fn.tally.report.received + waiting l.fn.inbox.datagram)
+      (l.tally.report.received + waiting l.inbox.datagram);
+  takes : TakesSoFar l.turn.intake l.turn.exchange.now (record {
+    stage = l.turn.stage;
+    now = l.turn.time;
+    challenge = l.turn.challenge.now;
+  })
       l.fn.inbox.datagram l.inbox.datagram l.taken l.counter l.fn.tally.report.received l.tally.report.received l.fn.pass l.pass
       (g.W.Wire.came l.fn.wire) (g.W.Wire.came l.wire);
 }

@@ -14,8 +14,10 @@ send_if_due-is_full-requires-clause-to g c κs within =
     let l = c.loop-peer in
     let peers = c.args.peers.now in
     let to = c.endpoint-to.result in
-    let at : endpoint_at c.args.turn.now.exchange.now (get_or peers l.peer-index 0) ≡ Some to = ap (λ plan. endpoint_at plan (get_or peers l.peer-index 0)) (sym c.plan.ensures) ∙ c.endpoint-to.ensures in
-    subst (λ ends. Contains ends to) (sym l.invariant.peers) (endpoint_among c.args.turn.now.exchange.now peers _ l.peer-index to c.requires.wire c.loop-peer-test.true at)
+    let at : endpoint_at c.args.turn.now.exchange.now (get_or peers l.peer-index 0) ≡ Some to =
+    ap (λ plan. endpoint_at plan (get_or peers l.peer-index 0)) (sym c.plan.ensures) ∙ c.endpoint-to.ensures in
+    subst (λ ends. Contains ends to) (sym l.invariant.peers) (endpoint_among c.args.turn.now.exchange.now peers _ l.peer-index to
+    c.requires.wire c.loop-peer-test.true at)
 
 pub loop-peer-preserved : goal.loop-peer-preserved
 loop-peer-preserved g c =
@@ -24,8 +26,10 @@ loop-peer-preserved g c =
     let peers = c.args.peers.now in
     let ends = g.W.Wire.peers c.args.wire.now in
     let to = c.endpoint-to.result in
-    let at : endpoint_at c.args.turn.now.exchange.now (get_or peers l.peer-index 0) ≡ Some to = ap (λ plan. endpoint_at plan (get_or peers l.peer-index 0)) (sym c.plan.ensures) ∙ c.endpoint-to.ensures in
-    let there : slice_get ends l.peer-index ≡ Some to = endpoint_there c.args.turn.now.exchange.now peers ends l.peer-index to c.requires.wire c.loop-peer-test.true at in
+    let at : endpoint_at c.args.turn.now.exchange.now (get_or peers l.peer-index 0) ≡ Some to =
+    ap (λ plan. endpoint_at plan (get_or peers l.peer-index 0)) (sym c.plan.ensures) ∙ c.endpoint-to.ensures in
+    let there : slice_get ends l.peer-index ≡ Some to = endpoint_there c.args.turn.now.exchange.now peers ends l.peer-index to
+    c.requires.wire c.loop-peer-test.true at in
     let first = g.W.Wire.given_to c.args.wire.now in
     let before = g.W.Wire.given_to l.wire in
     let after = g.W.Wire.given_to gone.new.wire in
@@ -43,15 +47,21 @@ loop-peer-preserved g c =
       refused = gone.ensures.refused ∙ l.invariant.refused;
       watch = gone.ensures.watch ∙ l.invariant.watch;
       given = omega arith;
-      each = each_next first before after ends l.peer-index (is - was) to there gone.ensures.others l.invariant.ahead place_within few rises l.invariant.each;
-      ahead = ahead_next first before after ends l.peer-index (is - was) to there gone.ensures.others l.invariant.ahead place_within c.requires.apart;
+      each = each_next first before after ends l.peer-index (is - was) to there gone.ensures.others l.invariant.ahead place_within
+          few rises l.invariant.each;
+      ahead = ahead_next first before after ends l.peer-index (is - was) to there gone.ensures.others l.invariant.ahead
+          place_within c.requires.apart;
       faults = omega arith;
       peers = gone.ensures.peers ∙ l.invariant.peers;
-      counts = counts_on c.args.tally.now.report l.tally.report gone.new.tally.report _ _ _ _ _ _ l.invariant.counts gone.ensures.counts;
+      counts = counts_on c.args.tally.now.report l.tally.report gone.new.tally.report _ _ _ _ _ _ l.invariant.counts
+          gone.ensures.counts;
       came = gone.ensures.came ∙ l.invariant.came;
       empties =
-          subst (λ first. EmptiesDue c.args.turn.now.exchange.now c.args.turn.now.all first c.args.pass.now gone.new.pass (g.W.Wire.went c.args.wire.now) (g.W.Wire.went gone.new.wire))
+          subst (λ first. EmptiesDue c.args.turn.now.exchange.now c.args.turn.now.all first c.args.pass.now gone.new.pass
+          (g.W.Wire.went c.args.wire.now) (g.W.Wire.went gone.new.wire))
           (sym (take_more peers l.peer-index 0 c.loop-peer-test.true))
-          (empties_more c.args.turn.now.exchange.now c.args.turn.now.all (take l.peer-index peers) (get_or peers l.peer-index 0) to c.args.pass.now l.pass gone.new.pass
-          (g.W.Wire.went c.args.wire.now) (g.W.Wire.went l.wire) (g.W.Wire.went gone.new.wire) l.invariant.empties at gone.ensures.empties);
+          (empties_more c.args.turn.now.exchange.now c.args.turn.now.all (take l.peer-index peers) (get_or peers l.peer-index 0)
+          to c.args.pass.now l.pass gone.new.pass
+          (g.W.Wire.went c.args.wire.now) (g.W.Wire.went l.wire) (g.W.Wire.went gone.new.wire) l.invariant.empties at
+          gone.ensures.empties);
     }

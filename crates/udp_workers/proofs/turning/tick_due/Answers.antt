@@ -16,10 +16,12 @@ loop-peer-preserved g c =
     let made = c.tick_if_due-is_ticked in
     let new = made.new.pass in
     let is = made.ensures in
-    let ticked = due_more plan now all (take l.peer-index peers) (get_or peers l.peer-index 0) c.args.pass.now l.pass new l.invariant.ticked is.ticked in
+    let ticked = due_more plan now all (take l.peer-index peers) (get_or peers l.peer-index 0) c.args.pass.now l.pass new
+    l.invariant.ticked is.ticked in
     record {
       steps = omega arith;
-      ticked = subst (λ first. TicksDue plan now all first c.args.pass.now new) (sym (take_more peers l.peer-index 0 c.loop-peer-test.true)) ticked;
+      ticked = subst (λ first. TicksDue plan now all first c.args.pass.now new)
+          (sym (take_more peers l.peer-index 0 c.loop-peer-test.true)) ticked;
       only = record {
         received = is.only.received ∙ l.invariant.only.received;
         refused = is.only.refused ∙ l.invariant.only.refused;

@@ -8,4 +8,5 @@ pub returns-in-Err-clause-answer : goal.returns-in-Err-clause-answer
 returns-in-Err-clause-answer g c =
     let state = c.deref_mut.result.now.state in
     let needs : c.in-Err.error ≡ NeedsNumber → SpellsOpening c.args.given.now.datagram =
-    needs_opening g.J.Naming.first_steps state.accounts.steps c.args.given.now.datagram state c.args.given.now.now (Err c.in-Err.error) c.in-Err.ensures.refused in search rules
+    needs_opening g.J.LedgerSet.first_steps state.accounts.steps c.args.given.now.datagram state c.args.given.now.now
+    (Err c.in-Err.error) c.in-Err.ensures.refused in search rules

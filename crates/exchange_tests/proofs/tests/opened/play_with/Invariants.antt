@@ -6,5 +6,5 @@ ghosts-play_named-O-Ledger g a = record { name = a.octets.name; parts = a.octets
 abbrev pub ghosts-play_named-T-Ledger : goal.ghosts-play_named-T-Ledger
 ghosts-play_named-T-Ledger g a = record { name = a.steps.name; parts = a.steps.parts }
 
-abbrev pub ghosts-play_named-P-Post : goal.ghosts-play_named-P-Post
-ghosts-play_named-P-Post g a = record { plan = a.plan }
+abbrev pub ghosts-play_named-P-PlanBrand : goal.ghosts-play_named-P-PlanBrand
+ghosts-play_named-P-PlanBrand g a = record { plan = a.plan }

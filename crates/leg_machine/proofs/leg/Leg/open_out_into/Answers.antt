@@ -17,10 +17,12 @@ sent c =
     written step.leg (leg_of c.send_frame.new.self) step.replies c.send_frame.new.outs
     (call-sent c.args.rules.now c.args.number c.args.called.now c.args.caller.now c.args.format c.args.now) leg replies
 
-pub returns-clause-tied : goal.returns-clause-tied
-returns-clause-tied c =
-    let leg : leg_of c.send_frame.new.self ≡ (open_out_step c.args.rules.now c.args.number c.args.called.now c.args.caller.now c.args.format c.args.now).leg = search rules in
-    subst HasSentAtMostOne (sym leg) (call-sends c.args.rules.now c.args.number c.args.called.now c.args.caller.now c.args.format c.args.now)
+pub returns-clause-extends_history : goal.returns-clause-extends_history
+returns-clause-extends_history c =
+    let leg : leg_of c.send_frame.new.self ≡ (open_out_step c.args.rules.now c.args.number c.args.called.now c.args.caller.now
+    c.args.format c.args.now).leg = search rules in
+    subst HasSentAtMostOne (sym leg) (call-sends c.args.rules.now c.args.number c.args.called.now c.args.caller.now c.args.format
+    c.args.now)
 
 pub invariant_of-result : goal.invariant_of-result
 invariant_of-result c = (sent c).numbered

@@ -8,10 +8,11 @@ pub returns-clause-leg : goal.returns-clause-leg
 returns-clause-leg c = c.in_ok-order_into.ensures.leg
 
 pub returns-clause-outcome : goal.returns-clause-outcome
-returns-clause-outcome c = ap (λ (datagrams : List (List ℕ)). outcome Unnumbered datagrams None) c.in_ok-order_into.ensures.replies
+returns-clause-outcome c = ap (λ (datagrams : List (List ℕ)). outcome Unnumbered datagrams None)
+    c.in_ok-order_into.ensures.replies
 
-pub returns-clause-seen : goal.returns-clause-seen
-returns-clause-seen c = c.in_ok-order_into.ensures.seen
+pub returns-clause-refines_abstract_leg : goal.returns-clause-refines_abstract_leg
+returns-clause-refines_abstract_leg c = c.in_ok-order_into.ensures.refines_abstract_leg
 
 pub returns-clause-unrefused : goal.returns-clause-unrefused
 returns-clause-unrefused c = c.in_ok-order_into.ensures.unrefused

@@ -10,25 +10,29 @@ use Rattle.leg_machine.proofs.TiedSends.{order-sends}
 use Rattle.leg_machine.proofs.leg.Leg.order_into.Goals as goal
 use Rattle.leg_machine.proofs.leg.Leg.order_into.Goals.{After-order}
 
-all : (c : After-order) → Answers c.order.result (SendsAtMostOne c.args.self.now.state) IsSendingOrMini (leg_of c.order.new.self) c.order.new.outs
+all : (c : After-order) → Answers c.order.result (SendsAtMostOne c.args.self.now.state) IsSendingOrMini (leg_of c.order.new.self)
+    c.order.new.outs
 all c =
     let old = c.args.self.now.state in
     let step = order_carried old c.args.order.now c.args.now in
     let numbered : SendsNumbered old = search rules in
     let sent = order-sent old c.args.order.now c.args.now (search rules) (search rules) numbered in
-    answers c.order.result (SendsAtMostOne old) IsSendingOrMini old step.leg (leg_of c.order.new.self) step.datagrams c.order.new.outs
-    (order-sends old c.args.order.now c.args.now) sent.numbered sent.sendings numbered (search rules) (search rules) (search rules)
+    answers c.order.result (SendsAtMostOne old) IsSendingOrMini old step.leg (leg_of c.order.new.self) step.datagrams
+    c.order.new.outs
+    (order-sends old c.args.order.now c.args.now) sent.numbered sent.sendings numbered (search rules) (search rules)
+    (search rules)
 
-pub returns-clause-tied : goal.returns-clause-tied
-returns-clause-tied c = (all c).tied
+pub returns-clause-extends_history : goal.returns-clause-extends_history
+returns-clause-extends_history c = (all c).tied
 
 pub returns-clause-sendings : goal.returns-clause-sendings
 returns-clause-sendings c = (all c).sendings
 
-pub returns-clause-seen : goal.returns-clause-seen
-returns-clause-seen c =
+pub returns-clause-refines_abstract_leg : goal.returns-clause-refines_abstract_leg
+returns-clause-refines_abstract_leg c =
     let old = c.args.self.now.state in
-    answered-seen c.order.result (kind_of c.args.order.now) old (order_carried old c.args.order.now c.args.now).leg (leg_of c.order.new.self) _
+    answered-seen c.order.result (kind_of c.args.order.now) old (order_carried old c.args.order.now c.args.now).leg
+    (leg_of c.order.new.self) _
     (order-seen old c.args.order.now c.args.now) (search rules) (search rules)
 
 pub returns-clause-wrong_stage : goal.returns-clause-wrong_stage

@@ -26,5 +26,11 @@ returns c =
     let bytes : Held Frame → List ℕ = λ h. spelling (sent_again (leg_of c.args.self.now) h) in
     let w = c.args.self.now.window.state in
     let short : length again_held ≤ c.loop-place.place =
-    omega (arith, c.loop-place-test.false, c.held_len-place-end.ensures.value, length-numbered_from (acked_count w.history) (held w.history) w.sendings) in
+    omega (
+      arith,
+      c.loop-place-test.false,
+      c.held_len-place-end.ensures.value,
+      length-numbered_from (acked_count w.history)
+          (held w.history) w.sendings,
+    ) in
     c.loop-place.invariant.0 ∙ map-take_all bytes again_held c.loop-place.place short

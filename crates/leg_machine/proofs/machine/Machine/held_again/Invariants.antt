@@ -9,4 +9,5 @@ use Rattle.leg_machine.proofs.machine.Machine.held_again.Given as goal
 -- the datagrams so far are those of the front
 abbrev pub invariant-loop-place : goal.invariant-loop-place
 invariant-loop-place l =
-    (l.outs ≡ map (λ held. spelling (sent_again (leg_of l.self) held)) (take l.place (held_frames l.self.window.state))) × (length l.outs ≡ l.place)
+    (l.outs ≡ map (λ held. spelling (sent_again (leg_of l.self) held)) (take l.place (held_frames l.self.window.state))) ×
+    (length l.outs ≡ l.place)

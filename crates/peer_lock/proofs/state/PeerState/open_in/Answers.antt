@@ -18,13 +18,24 @@ opened-requires-clause-remote g c κs within = λ remote is.
 
 pub returns-in-Ok : goal.returns-in-Ok
 returns-in-Ok g c =
-    let view : PeerView = record { rules = c.self.inside.rules; legs = c.self.inside.legs; outbox = c.self.inside.outbox; queue = c.self.inside.queue; since = c.self.inside.since; drains = c.self.inside.drains; pokes = c.self.inside.pokes; accounts = c.self.inside.account } in
-    let step_is = taken_in view c.args.self.now c.args.lease c.name-name.result c.free_number-number.result c.args.frame.now c.args.now c.args.challenge.now c.self.view_is c.free_number-number.ensures.number c.name-name.ensures in
+    let view : PeerView = record {
+      rules = c.self.inside.rules;
+      legs = c.self.inside.legs;
+      outbox = c.self.inside.outbox;
+      queue = c.self.inside.queue;
+      since = c.self.inside.since;
+      drains = c.self.inside.drains;
+      pokes = c.self.inside.pokes;
+      accounts = c.self.inside.account;
+    } in
+    let step_is = taken_in view c.args.self.now c.args.lease c.name-name.result c.free_number-number.result c.args.frame.now
+    c.args.now c.args.challenge.now c.self.view_is c.free_number-number.ensures.number c.name-name.ensures in
     let heard_is = c.in-Ok.ensures.heard ∙ ap heard_of step_is in
     let leg_is = c.in-Ok.ensures.leg ∙ ap (λ (s : Step). s.leg) step_is in
     let sent : c.put_all.new.outbox ≡ put view.outbox c.open_in_into.new.replies = search rules in
     record {
-      peer = opened_in view c.args.self.now c.opened.new.self c.args.lease _ _ c.put_all.new.outbox c.open_in_into.new.replies c.in-Ok.leg.state
+      peer = opened_in view c.args.self.now c.opened.new.self c.args.lease _ _ c.put_all.new.outbox c.open_in_into.new.replies
+          c.in-Ok.leg.state
           c.self.view_is step_is c.opened.ensures.peer sent c.in-Ok.ensures.replies c.in-Ok.ensures.leg;
       step = c.opened.ensures.step ∙ ap (λ (h : Heard). leg_alone c.args.lease h.judged) heard_is;
       signals = c.opened.ensures.signals ∙ ap (λ (h : Heard). handed_up c.args.lease h.signal) heard_is;
@@ -34,4 +45,5 @@ returns-in-Ok g c =
       refused = search rules;
       lease = search rules;
       err = search rules;
+      no_memory = search rules;
     }

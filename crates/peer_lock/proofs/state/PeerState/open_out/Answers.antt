@@ -8,6 +8,8 @@ use Rattle.peer_lock.proofs.state.PeerState.open_out.Goals as goal
 
 pub returns-in-Ok-clause-peer : goal.returns-in-Ok-clause-peer
 returns-in-Ok-clause-peer g c =
-    let step : LegName → Step = λ n. open_out_step c.args.self.now.rules n.number c.args.called.now c.args.caller.now c.args.format c.args.now in
-    seated c.args.self.now c.send_new.new.self c.seat.new.self c.name-2.result c.args.lease (λ n. (step n).leg) (λ n. map spelling (step n).replies)
+    let step : LegName → Step = λ n. open_out_step c.args.self.now.rules n.number c.args.called.now c.args.caller.now
+    c.args.format c.args.now in
+    seated c.args.self.now c.send_new.new.self c.seat.new.self c.name-2.result c.args.lease (λ n. (step n).leg)
+    (λ n. map spelling (step n).replies)
     c.in-Ok.leg.state c.name-2.ensures c.seat.ensures.peer c.in-Ok.ensures.peer c.in-Ok.ensures.leg

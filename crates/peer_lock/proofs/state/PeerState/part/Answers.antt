@@ -13,13 +13,24 @@ invariant_of-closed g c = record {
 
 pub returns-clause-same : goal.returns-clause-same
 returns-clause-same g c =
-    ap (λ (a : Accounts). record { rules = c.self.inside.rules; legs = c.self.inside.legs; outbox = c.self.inside.outbox; queue = c.self.inside.queue; since = c.self.inside.since; drains = c.self.inside.drains; pokes = c.self.inside.pokes; accounts = a }) c.part-account.ensures.same
+    ap (λ (a : Accounts). record {
+      rules = c.self.inside.rules;
+      legs = c.self.inside.legs;
+      outbox = c.self.inside.outbox;
+      queue = c.self.inside.queue;
+      since = c.self.inside.since;
+      drains = c.self.inside.drains;
+      pokes = c.self.inside.pokes;
+      accounts = a;
+    }) c.part-account.ensures.same
     ∙ c.self.view_is
 
 pub returns-clause-octets : goal.returns-clause-octets
 returns-clause-octets g c =
-    subst (λ (v : PeerView). c.part-account.result.1 + v.accounts.accepted ≡ g.J.Naming.first_octets + carried v.accounts) c.self.view_is c.part-account.ensures.octets
+    subst (λ (v : PeerView). c.part-account.result.1 + v.accounts.accepted ≡ g.J.LedgerSet.first_octets + carried v.accounts)
+    c.self.view_is c.part-account.ensures.octets
 
 pub returns-clause-steps : goal.returns-clause-steps
 returns-clause-steps g c =
-    subst (λ (v : PeerView). c.part-account.result.2 + v.accounts.steps ≡ g.J.Naming.first_steps) c.self.view_is c.part-account.ensures.steps
+    subst (λ (v : PeerView). c.part-account.result.2 + v.accounts.steps ≡ g.J.LedgerSet.first_steps) c.self.view_is
+    c.part-account.ensures.steps

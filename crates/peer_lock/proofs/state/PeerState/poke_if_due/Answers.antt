@@ -7,12 +7,23 @@ use Rattle.peer_lock.proofs.state.PeerState.poke_if_due.Goals as goal
 
 pub returns : goal.returns
 returns g c =
-    let view : PeerView = record { rules = c.self.inside.rules; legs = c.self.inside.legs; outbox = c.self.inside.outbox; queue = c.self.inside.queue; since = c.self.inside.since; drains = c.self.inside.drains; pokes = c.self.inside.pokes; accounts = c.self.inside.account } in
+    let view : PeerView = record {
+      rules = c.self.inside.rules;
+      legs = c.self.inside.legs;
+      outbox = c.self.inside.outbox;
+      queue = c.self.inside.queue;
+      since = c.self.inside.since;
+      drains = c.self.inside.drains;
+      pokes = c.self.inside.pokes;
+      accounts = c.self.inside.account;
+    } in
     let now : ℕ = c.args.now in
     let due : is_poke_due view.rules view.pokes now ≡ true = search rules in
     let written : c.in-Ok.out ≡ poke_octets now = search rules in
-    let sent : pokes_sent view.rules view.pokes now ≡ poke_octets now ∷ [] = ap (λ (b : Bool). cond b (poke_octets now ∷ []) []) due in
-    let after : pokes_after view.rules view.pokes now ≡ poked view.rules view.pokes now = ap (λ (b : Bool). cond b (poked view.rules view.pokes now) view.pokes) due in
+    let sent : pokes_sent view.rules view.pokes now ≡ poke_octets now ∷ [] = ap (λ (b : Bool). cond b (poke_octets now ∷ []) [])
+    due in
+    let after : pokes_after view.rules view.pokes now ≡ poked view.rules view.pokes now =
+    ap (λ (b : Bool). cond b (poked view.rules view.pokes now) view.pokes) due in
     (λ i. record view {
       outbox = (c.put.ensures ∙ ap (λ (o : List ℕ). put view.outbox (o ∷ [])) written ∙ ap (put view.outbox) (sym sent)) i;
       pokes = (c.poked-self-inside.ensures ∙ sym after) i;

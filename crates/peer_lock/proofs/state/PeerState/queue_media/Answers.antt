@@ -9,8 +9,19 @@ use Rattle.peer_lock.proofs.state.PeerState.queue_media.Goals as goal
 
 pub invariant_of-self : goal.invariant_of-self
 invariant_of-self g c =
-    let view : PeerView = record { rules = c.self.inside.rules; legs = c.self.inside.legs; outbox = c.self.inside.outbox; queue = c.self.inside.queue; since = c.self.inside.since; drains = c.self.inside.drains; pokes = c.self.inside.pokes; accounts = c.self.inside.account } in
+    let view : PeerView = record {
+      rules = c.self.inside.rules;
+      legs = c.self.inside.legs;
+      outbox = c.self.inside.outbox;
+      queue = c.self.inside.queue;
+      since = c.self.inside.since;
+      drains = c.self.inside.drains;
+      pokes = c.self.inside.pokes;
+      accounts = c.self.inside.account;
+    } in
     let entry : QueueEntry = record { number = c.args.number; timestamp = c.args.timestamp; media = c.args.media.now } in
-    kept_queued view c.queue.new.self c.oldest-since.result c.carry.new.self entry c.self.invariant c.in-Ok.ensures.queued c.in-Ok.ensures.counted
+    kept_queued view c.queue.new.self c.oldest-since.result c.carry.new.self entry c.self.invariant c.in-Ok.ensures.queued
+    c.in-Ok.ensures.counted
     (ap (λ (a : Accounts). a.queued) c.carry.ensures.counted)
-    (subst (λ (v : PeerView). waits v.rules ≡ true → trunk_octets v.rules.trunk_timestamps v.queue + head_len v.rules.trunk_timestamps + length c.args.media.now ≤ 1400) (sym c.self.view_is) c.requires.frame)
+    (subst (λ (v : PeerView). waits v.rules ≡ true → trunk_octets v.rules.trunk_timestamps v.queue + head_len
+    v.rules.trunk_timestamps + length c.args.media.now ≤ 1400) (sym c.self.view_is) c.requires.frame)

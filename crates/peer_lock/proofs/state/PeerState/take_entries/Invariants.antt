@@ -7,5 +7,6 @@ use Rattle.peer_lock.proofs.state.PeerState.take_entries.Given as goal
 abbrev pub invariant-loop-entry : goal.invariant-loop-entry
 invariant-loop-entry g l =
     (goal.iterator-loop-entry g).can_next l.left × (goal.iterator-loop-entry g).is_finite l.left
-    × AreLeft g.J.Naming.first_octets l.initial.self l.initial.pass (trunk_media g.J.Naming.first_octets l.initial.self l.trunk)
+    × AreLeft g.J.LedgerSet.first_octets l.initial.self l.initial.pass (trunk_media g.J.LedgerSet.first_octets l.initial.self
+    l.trunk)
     (is_timed l.trunk.command_data) l.at (map entry_item l.left) l.self l.pass l.onwards

@@ -11,10 +11,12 @@ either_more true packed queued = omega arith
 either_more false packed queued = omega arith
 
 -- a queue that goes out adds to the packed octets
-more_packed : (goes : Bool) (queue : List QueueEntry) (accounts : Accounts) → accounts.packed ≤ (accounts_after goes queue accounts).packed
+more_packed : (goes : Bool) (queue : List QueueEntry) (accounts : Accounts)
+    → accounts.packed ≤ (accounts_after goes queue accounts).packed
 more_packed goes queue accounts = either_more (flushes goes queue) accounts.packed accounts.queued
 
-grown : (before more between now octets : ℕ) → before ≤ more → between ≡ more → now ≡ between + octets → now ≡ before + (now - before)
+grown : (before more between now octets : ℕ) → before ≤ more → between ≡ more → now ≡ between + octets
+    → now ≡ before + (now - before)
 grown before more between now octets most between_is now_is = omega (arith, most, between_is, now_is)
 
 pub returns-clause-quiet : goal.returns-clause-quiet
@@ -27,14 +29,24 @@ returns-clause-ticked c = λ c'.
     let between : PeerView = c'.tick_legs-skipped.new.self in
     let start : c'.poke_if_due.new.self ≡ asked (counted old) now =
     c'.poke_if_due.ensures
-    ∙ (λ i. asked (record { rules = c'.self.inside.rules; legs = c'.self.inside.legs; outbox = c'.self.inside.outbox; queue = c'.self.inside.queue; since = c'.self.inside.since; drains = c'.self.inside.drains; pokes = c'.self.inside.pokes; accounts = c'.count_step.ensures.counted i }) now)
+    ∙ (λ i. asked (record {
+      rules = c'.self.inside.rules;
+      legs = c'.self.inside.legs;
+      outbox = c'.self.inside.outbox;
+      queue = c'.self.inside.queue;
+      since = c'.self.inside.since;
+      drains = c'.self.inside.drains;
+      pokes = c'.self.inside.pokes;
+      accounts = c'.count_step.ensures.counted i;
+    }) now)
     ∙ ap (λ (v : PeerView). asked (counted v) now) c'.self.view_is in
     let legs : TicksLegs (asked (counted old) now) now c'.tick_legs-skipped.result between =
     subst (λ (p : PeerView). TicksLegs p now c'.tick_legs-skipped.result between) start c'.tick_legs-skipped.ensures in
     let before : c'.packed-packed_before.result ≡ old.accounts.packed = search rules in
     let packed : c'.packed.result ≡ c'.pack_at_tick.new.self.accounts.packed = c'.packed.ensures in
     let more = grown old.accounts.packed _ between.accounts.packed c'.pack_at_tick.new.self.accounts.packed c'.pack_at_tick.result
-    (more_packed _ _ (counted old).accounts) (ap (λ (p : PeerView). p.accounts.packed) legs.legs) c'.pack_at_tick.ensures.packed in
+    (more_packed _ _ (counted old).accounts) (ap (λ (p : PeerView). p.accounts.packed) legs.legs)
+    c'.pack_at_tick.ensures.packed in
     record {
       between = between;
       legs = legs;

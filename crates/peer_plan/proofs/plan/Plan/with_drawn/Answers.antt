@@ -14,26 +14,34 @@ loop-peer-init c = c.deref_mut-peer-items.ensures.value ∙ ap (λ (plan : PlanV
 
 pub loop-peer-preserved : goal.loop-peer-preserved
 loop-peer-preserved c =
-    let peers : c.deref_mut-peer-items.result.now ≡ c.args.self.peers = c.deref_mut-peer-items.ensures.value ∙ ap (λ (plan : PlanView). plan.peers) c.self.view_is in
-    ap (set c.loop-peer.peer-items c.loop-peer.peer-index) (c.take_drawn.ensures ∙ ap (with_drawn c.args.drawn.now) (sym c.peer-item.is))
-    ∙ map_over_more (with_drawn c.args.drawn.now) c.args.self.peers c.loop-peer.peer-items c.loop-peer.peer-index c.peer-item.result
-    (subst (λ (all : List Peer). c.loop-peer.peer-index < length all) peers c.loop-peer-test.true) c.loop-peer.invariant c.peer-item.is
+    let peers : c.deref_mut-peer-items.result.now ≡ c.args.self.peers = c.deref_mut-peer-items.ensures.value
+    ∙ ap (λ (plan : PlanView). plan.peers) c.self.view_is in
+    ap (set c.loop-peer.peer-items c.loop-peer.peer-index) (c.take_drawn.ensures ∙ ap (with_drawn c.args.drawn.now)
+    (sym c.peer-item.is))
+    ∙ map_over_more (with_drawn c.args.drawn.now) c.args.self.peers c.loop-peer.peer-items c.loop-peer.peer-index
+    c.peer-item.result
+    (subst (λ (all : List Peer). c.loop-peer.peer-index < length all) peers c.loop-peer-test.true) c.loop-peer.invariant
+    c.peer-item.is
 
 drawn_in : (c : goal.After-peers-in-loop-peer-1) → c.loop-peer.peer-items ≡ map (with_drawn c.args.drawn.now) c.args.self.peers
 drawn_in c =
     let f = with_drawn c.args.drawn.now in
     let n = c.loop-peer.peer-index in
     let ps = c.args.self.peers in
-    let peers : c.deref_mut-peer-items.result.now ≡ ps = c.deref_mut-peer-items.ensures.value ∙ ap (λ (plan : PlanView). plan.peers) c.self.view_is in
+    let peers : c.deref_mut-peer-items.result.now ≡ ps = c.deref_mut-peer-items.ensures.value
+    ∙ ap (λ (plan : PlanView). plan.peers) c.self.view_is in
     let all : length ps ≤ n = subst (λ (all : List Peer). length all ≤ n) peers c.loop-peer-test.false in
     c.loop-peer.invariant ∙ ap (λ rest. map f (take n ps) ++ rest) (drop_all n ps all) ∙ append-nil (map f (take n ps))
     ∙ ap (map f) (take_all n ps all)
 
 -- the peers that are written back
-written : (c : goal.After-peers-in-loop-peer-1) → (with_items c.self.inside.peers c.loop-peer.peer-items).items ≡ c.loop-peer.peer-items
-written c = with_items_is c.self.inside.peers c.loop-peer.peer-items (c.loop-peer.auto.peer-items ∙ c.deref_mut-peer-items.ensures.len)
+written : (c : goal.After-peers-in-loop-peer-1) → (with_items c.self.inside.peers c.loop-peer.peer-items).items
+    ≡ c.loop-peer.peer-items
+written c = with_items_is c.self.inside.peers c.loop-peer.peer-items
+    (c.loop-peer.auto.peer-items ∙ c.deref_mut-peer-items.ensures.len)
 
-drawn_inside : (c : goal.After-peers-in-loop-peer-1) → c.loop-peer.peer-items ≡ map (with_drawn c.args.drawn.now) c.self.inside.peers.items
+drawn_inside : (c : goal.After-peers-in-loop-peer-1) → c.loop-peer.peer-items ≡ map (with_drawn c.args.drawn.now)
+    c.self.inside.peers.items
 drawn_inside c = drawn_in c ∙ ap (map (with_drawn c.args.drawn.now)) (sym (ap (λ (plan : PlanView). plan.peers) c.self.view_is))
 
 pub invariant_of-result : goal.invariant_of-result
@@ -41,10 +49,13 @@ invariant_of-result c =
     let inside = c.self.inside in
     let drawn = c.args.drawn.now in
     record {
-      plan = subst (λ (peers : List Peer). IsPlan (record (plan_view inside) { peers = peers })) (sym (written c ∙ drawn_inside c))
+      plan = subst (λ (peers : List Peer). IsPlan (record (plan_view inside) { peers = peers }))
+          (sym (written c ∙ drawn_inside c))
           (drawn_plan drawn (plan_view inside) c.self.invariant.plan);
-      endpoints = c.self.invariant.endpoints ∙ sym (endpoints_kept drawn inside.peers.items) ∙ ap (map (λ (peer : Peer). peer.endpoint)) (sym (written c ∙ drawn_inside c));
-      counts = c.self.invariant.counts ∙ sym (counts_kept drawn inside.peers.items) ∙ ap counts_of (sym (written c ∙ drawn_inside c));
+      endpoints = c.self.invariant.endpoints ∙ sym (endpoints_kept drawn inside.peers.items)
+          ∙ ap (map (λ (peer : Peer). peer.endpoint)) (sym (written c ∙ drawn_inside c));
+      counts = c.self.invariant.counts ∙ sym (counts_kept drawn inside.peers.items) ∙ ap counts_of
+          (sym (written c ∙ drawn_inside c));
     }
 
 pub returns : goal.returns

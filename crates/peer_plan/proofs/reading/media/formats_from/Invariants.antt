@@ -5,4 +5,5 @@ use Rattle.peer_plan.proofs.reading.media.formats_from.Given as goal
 
 -- the formats so far, and the names that are left
 abbrev pub invariant-loop-item : goal.invariant-loop-item
-invariant-loop-item l = formats_after (Some l.formats) (items_view (drop l.item-index l.items)) ≡ formats_from (items_view l.items)
+invariant-loop-item l = formats_after (Some l.formats) (items_view (drop l.item-index l.items)) ≡ formats_from
+    (items_view l.items)

@@ -8,4 +8,5 @@ use Rattle.peer_plan.proofs.reading.routes.each_route.Given as goal
 
 -- the routes read so far, and the remaining tables
 abbrev pub invariant-loop-item : goal.invariant-loop-item
-invariant-loop-item l = each key.Route (route_in l.format l.peers) [] (items_view l.items) ≡ so_far l.format l.peers l.routes.items (items_view (drop l.item-index l.items))
+invariant-loop-item l = each key.Route (route_in l.format l.peers) [] (items_view l.items) ≡ so_far l.format l.peers
+    l.routes.items (items_view (drop l.item-index l.items))

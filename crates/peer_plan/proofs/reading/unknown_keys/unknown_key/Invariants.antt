@@ -5,4 +5,5 @@ use Rattle.peer_plan.proofs.reading.unknown_keys.unknown_key.Given as goal
 
 -- none among the keys so far
 abbrev pub invariant-loop-key : goal.invariant-loop-key
-invariant-loop-key l = unknown_key l.section l.format (members_view l.fn.table.entries) ≡ unknown_key l.section l.format (members_view l.key-iterator)
+invariant-loop-key l = unknown_key l.section l.format (members_view l.fn.table.entries) ≡ unknown_key l.section l.format
+    (members_view l.key-iterator)

@@ -7,4 +7,10 @@ use Rattle.resend_queue.proofs.queue.Resend.mark.Goals as goal
 pub returns : goal.returns
 returns g c =
     noted (marked c.args.now) c.args.place c.self.inside.ring.items c.self.inside.ring.capacity c.args.self.now _ _ c.self.view_is
-    (sym c.get_mut.ensures.value ∙ ap option_copied_mut c.unwrap-held.ensures) (ap (λ n. record { number = c.unwrap-held.result.now.number; frame = c.unwrap-held.result.now.frame; last = c.args.now; tries = n }) c.saturating_add-held.ensures)
+    (sym c.get_mut.ensures.value ∙ ap option_copied_mut c.unwrap-held.ensures)
+    (ap (λ n. record {
+      number = c.unwrap-held.result.now.number;
+      frame = c.unwrap-held.result.now.frame;
+      last = c.args.now;
+      tries = n;
+    }) c.saturating_add-held.ensures)

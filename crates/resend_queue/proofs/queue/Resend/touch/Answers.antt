@@ -6,5 +6,6 @@ use Rattle.resend_queue.proofs.queue.Resend.touch.Goals as goal
 
 pub returns : goal.returns
 returns g c =
-    noted (touched c.args.now) c.args.place c.self.inside.ring.items c.self.inside.ring.capacity c.args.self.now _ _ c.self.view_is
+    noted (touched c.args.now) c.args.place c.self.inside.ring.items c.self.inside.ring.capacity c.args.self.now _ _
+    c.self.view_is
     (sym c.get_mut.ensures.value ∙ ap option_copied_mut c.unwrap.ensures) refl

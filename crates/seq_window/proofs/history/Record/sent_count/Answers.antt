@@ -9,5 +9,6 @@ use Rattle.seq_window.proofs.history.Record.sent_count.Goals as goal
 
 pub returns : goal.returns
 returns c =
-    c.count_in.ensures ∙ ap (sum_by (counted_by counts.Sent)) c.as_slice.ensures.value ∙ sent_count-heads c.self.inside.octets.items c.self.inside.heads.items
+    c.count_in.ensures ∙ ap (sum_by (counted_by counts.Sent)) c.as_slice.ensures.value ∙ sent_count-heads
+    c.self.inside.octets.items c.self.inside.heads.items
     ∙ ap (λ (r : RecordState). sent_count r.entries) c.self.view_is

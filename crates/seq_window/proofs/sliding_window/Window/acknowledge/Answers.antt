@@ -16,10 +16,12 @@ drop_front-requires c =
 pub invariant_of-self-2 : goal.invariant_of-self-2
 invariant_of-self-2 c =
     let free : c.free_entries.result + length c.self.inside.history.entries ≡ c.self.inside.limit
-    = subst (λ (w : Window). c.free_entries.result + entry_count w.state ≡ w.state.limit) (sym c.self.view_is) c.free_entries.ensures in
+    = subst (λ (w : Window). c.free_entries.result + entry_count w.state ≡ w.state.limit) (sym c.self.view_is)
+    c.free_entries.ensures in
     acked_sound c.self.inside c.self.invariant c.push.new.self c.drop_front.new.self c.args.iseq c.in-Acked.count
     (ap (λ (r : RecordState). r.entries) c.in-Ok.ensures.ok)
-    (ap (λ (q : Queue ℕ). q.held) c.drop_front.ensures) (ap (λ (q : Queue ℕ). q.width) c.drop_front.ensures) (omega arith) (omega arith)
+    (ap (λ (q : Queue ℕ). q.held) c.drop_front.ensures) (ap (λ (q : Queue ℕ). q.width) c.drop_front.ensures) (omega arith)
+    (omega arith)
     (c.in-Acked.ensures ∙ ap (λ (w : Window). judged_acknowledgement w.state.history c.args.iseq) (sym c.self.view_is))
     (omega arith)
 

@@ -7,6 +7,7 @@ use Rattle.seq_window.proofs.sliding_window.Window.receive.Goals as goal
 pub invariant_of-self-2 : goal.invariant_of-self-2
 invariant_of-self-2 c =
     let free : c.free_entries.result + length c.self.inside.history.entries ≡ c.self.inside.limit
-    = subst (λ (w : Window). c.free_entries.result + entry_count w.state ≡ w.state.limit) (sym c.self.view_is) c.free_entries.ensures in
+    = subst (λ (w : Window). c.free_entries.result + entry_count w.state ≡ w.state.limit) (sym c.self.view_is)
+    c.free_entries.ensures in
     taken_sound c.self.inside c.self.invariant c.push.new.self (frame_of c.args.frame)
     (ap (λ (r : RecordState). r.entries) c.in-Ok.ensures.ok) (omega arith)

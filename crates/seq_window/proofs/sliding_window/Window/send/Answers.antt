@@ -15,7 +15,8 @@ on_ok (Err e) P is holds = cc
 pub invariant_of-self-2 : goal.invariant_of-self-2
 invariant_of-self-2 c =
     let free : c.free_entries.result + length c.self.inside.history.entries ≡ c.self.inside.limit
-    = subst (λ (w : Window). c.free_entries.result + entry_count w.state ≡ w.state.limit) (sym c.self.view_is) c.free_entries.ensures in
+    = subst (λ (w : Window). c.free_entries.result + entry_count w.state ≡ w.state.limit) (sym c.self.view_is)
+    c.free_entries.ensures in
     let one : Held ℕ = record { number = c.self.inside.next; frame = c.len-place.result; last = c.args.now; tries = 0 } in
     let room : nat_le c.self.inside.width (length (map sending_of c.self.inside.held.held)) ≡ false
     = ap (λ (w : Window). is_full w.state) c.self.view_is ∙ sym c.is_full.ensures ∙ c.if-is_full.false in

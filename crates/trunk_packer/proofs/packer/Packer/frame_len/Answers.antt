@@ -5,7 +5,8 @@ use Rattle.trunk_packer.proofs.packer.Packer.frame_len.Goals as goal
 
 pub returns-clause-len : goal.returns-clause-len
 returns-clause-len c =
-    counted_octets _ _ _ _ _ _ c.entry_head_len.ensures.len c.self.invariant.1.entries_counted c.self.invariant.1.media_counted c.self.view_is
+    counted_octets _ _ _ _ _ _ c.entry_head_len.ensures.len c.self.invariant.1.entries_counted c.self.invariant.1.media_counted
+    c.self.view_is
 
 few : (head entries media : ℕ) → head ≤ 6 → entries ≤ 256 → media ≤ 16384 → 8 + entries * head + media ≤ 17928
 few head entries media short some little =

@@ -2,12 +2,20 @@ use Rattle.std.proofs.Common.{ℕ, ◌∙◌, ap, length, arith}
 use Rattle.circular_buffer.specs.Buffer.{Buffer}
 use Rattle.trunk_packer.specs.Queue.{media_octets}
 use Rattle.trunk_packer.proofs.QueueLaws.{HoldsQueue-length}
-use Rattle.trunk_packer.proofs.PackingLaws.{IsPacking-bound, IsPacking-more, IsPacking-packed, IsPacked-holds, AppendsFront-shorter, some_unless}
+use Rattle.trunk_packer.proofs.PackingLaws.{IsPacking-bound, IsPacking-more, IsPacking-packed, IsPacked-holds}
+use Rattle.trunk_packer.proofs.PackingLaws.{AppendsFront-shorter, some_unless}
 use Rattle.trunk_packer.proofs.packer.Packer.pack.Goals as goal
 
 pub append_front-requires-clause-short : goal.append_front-requires-clause-short
 append_front-requires-clause-short c =
-    omega (arith, c.loop-len.invariant.within, ap length c.as_slices.ensures, HoldsQueue-length _ _ _ c.self.invariant.1, c.self.invariant.1.few_entries, c.self.invariant.1.little_media)
+    omega (
+      arith,
+      c.loop-len.invariant.within,
+      ap length c.as_slices.ensures,
+      HoldsQueue-length _ _ _ c.self.invariant.1,
+      c.self.invariant.1.few_entries,
+      c.self.invariant.1.little_media,
+    )
 
 pub overflow_add-media : goal.overflow_add-media
 overflow_add-media c =
@@ -21,7 +29,14 @@ loop-len-preserved c = IsPacking-more _ _ _ _ _ _ _ _ _ _ c.loop-len.invariant c
 
 pub len-kept-requires : goal.len-kept-requires
 len-kept-requires c =
-    omega (arith, c.loop-len.invariant.within, ap length c.as_slices.ensures, HoldsQueue-length _ _ _ c.self.invariant.1, c.self.invariant.1.few_entries, c.self.invariant.1.little_media)
+    omega (
+      arith,
+      c.loop-len.invariant.within,
+      ap length c.as_slices.ensures,
+      HoldsQueue-length _ _ _ c.self.invariant.1,
+      c.self.invariant.1.few_entries,
+      c.self.invariant.1.little_media,
+    )
 
 pub overflow_sub-self-2 : goal.overflow_sub-self-2
 overflow_sub-self-2 c =
@@ -34,7 +49,8 @@ pub invariant_of-self : goal.invariant_of-self
 invariant_of-self c = (
   ap (λ (ring : Buffer ℕ). ring.capacity) c.truncate_front.ensures ∙ c.self.invariant.0,
   IsPacked-holds _ _ _ _ _ _ _ _ _ _ c.self.invariant.1 c.self.view_is
-      (IsPacking-packed _ _ _ _ _ _ _ _ _ _ _ _ _ c.loop-len.invariant c.as_slices.ensures c.self.view_is c.self.invariant.1.spelled
+      (IsPacking-packed _ _ _ _ _ _ _ _ _ _ _ _ _ c.loop-len.invariant c.as_slices.ensures c.self.view_is
+      c.self.invariant.1.spelled
       c.in_default.ensures.none c.in_default.ensures.same c.len-kept.ensures c.truncate_front.ensures),
 )
 

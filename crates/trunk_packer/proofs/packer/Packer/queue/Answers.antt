@@ -14,8 +14,10 @@ invariant_of-self c = (
 )
 
 pub returns-clause-queued : goal.returns-clause-queued
-returns-clause-queued c = queue_in-push _ _ _ _ c.push_entry.ensures.octets c.self.view_is c.self.invariant.1.spelled c.push_entry.ensures.entry
+returns-clause-queued c = queue_in-push _ _ _ _ c.push_entry.ensures.octets c.self.view_is c.self.invariant.1.spelled
+    c.push_entry.ensures.entry
 
 pub returns-clause-counted : goal.returns-clause-counted
 returns-clause-counted c =
-    media_octets-push _ _ _ (queue_in-push _ _ _ _ c.push_entry.ensures.octets c.self.view_is c.self.invariant.1.spelled c.push_entry.ensures.entry)
+    media_octets-push _ _ _ (queue_in-push _ _ _ _ c.push_entry.ensures.octets c.self.view_is c.self.invariant.1.spelled
+    c.push_entry.ensures.entry)

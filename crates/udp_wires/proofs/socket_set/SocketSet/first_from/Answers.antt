@@ -9,5 +9,6 @@ returns-then-above-ne0-clause-first c =
 
 pub returns-clause-first : goal.returns-clause-first
 returns-clause-first c =
-    let near = nearest_low c.args.self.bits c.args.from c.requires (omega arith) (omega (arith, c.if-above-ne0.false)) (omega (arith, c.if-self-eq0.false)) in
+    let near = nearest_low c.args.self.bits c.args.from c.requires (omega arith) (omega (arith, c.if-above-ne0.false))
+    (omega (arith, c.if-self-eq0.false)) in
     record { there = near.there; within = near.within; first = near.first }

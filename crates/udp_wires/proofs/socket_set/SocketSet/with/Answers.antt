@@ -7,4 +7,5 @@ pub returns-clause-there : goal.returns-clause-there
 returns-clause-there c = bit_at_set_same w64 c.args.self.bits c.args.place c.requires
 
 pub returns-clause-others : goal.returns-clause-others
-returns-clause-others c other within apart = as_before _ _ (bit_at_set_other w64 c.args.self.bits c.args.place c.requires other apart)
+returns-clause-others c other within apart = as_before _ _ (bit_at_set_other w64 c.args.self.bits c.args.place c.requires other
+    apart)

@@ -9,4 +9,5 @@ returns-clause-gone c there =
     omega (arith, gone, there)
 
 pub returns-clause-others : goal.returns-clause-others
-returns-clause-others c other within apart = as_before _ _ (bit_at_clear_other w64 c.args.self.bits c.args.place c.requires other within apart)
+returns-clause-others c other within apart = as_before _ _ (bit_at_clear_other w64 c.args.self.bits c.args.place c.requires other
+    within apart)

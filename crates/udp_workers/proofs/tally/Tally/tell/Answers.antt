@@ -5,5 +5,6 @@ pub invariant_of-self : goal.invariant_of-self
 invariant_of-self g c =
     let tally = c.args.self.now in
     record {
-      told = tells_more (g.V.Watch.told tally.watch.now) tally.report c.counted-self.result c.args.event c.tell.ensures c.counted-self.ensures tally.told;
+      told = tells_more (g.V.Watch.told tally.watch.now) tally.report c.counted-self.result c.args.event c.tell.ensures
+          c.counted-self.ensures tally.told;
     }

@@ -12,7 +12,8 @@ loop-leg-preserved g c =
     let l = c.loop-leg in
     let counted = c.tell.ensures.counted in
     let watch = c.tell.ensures.watch ∙ l.invariant.watch in
-    let given = subst (λ (w : Bor g.row.V.Denot). g.V.Watch.given w.now (departure_of c.leg-item.result)) watch c.retire.ensures in
+    let given = subst (λ (w : Bor g.row.V.Denot). g.V.Watch.given w.now (departure_of c.leg-item.result)) watch
+    c.retire.ensures in
     record {
       only = record {
         received = ap (λ (r : TurnReport). r.received) counted ∙ l.invariant.only.received;
@@ -23,7 +24,8 @@ loop-leg-preserved g c =
       };
       watch = watch;
       given =
-          All-more (λ (leg : Retired). g.V.Watch.given c.args.self.now.watch.now (departure_of leg)) c.args.legs.now l.leg-index c.leg-item.result
+          All-more (λ (leg : Retired). g.V.Watch.given c.args.self.now.watch.now (departure_of leg)) c.args.legs.now l.leg-index
+          c.leg-item.result
           c.loop-leg-test.true l.invariant.given
           (subst (λ (leg : Retired). g.V.Watch.given c.args.self.now.watch.now (departure_of leg)) c.leg-item.is given);
     }

@@ -10,4 +10,5 @@ endpoint-requires c =
     let plan = c.args.plan.now in
     let peers = c.peers-peer-items.result.now in
     All-get_or (λ peer. peer < length plan.peers) peers c.loop-peer.peer-index 0 c.loop-peer-test.true
-    (subst (All (λ peer. peer < length plan.peers)) (sym (c.peers-peer-items.ensures.peers ∙ c.requires)) (peers_below plan self.place))
+    (subst (All (λ peer. peer < length plan.peers)) (sym (c.peers-peer-items.ensures.peers ∙ c.requires))
+    (peers_below plan self.place))

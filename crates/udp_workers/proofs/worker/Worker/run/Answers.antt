@@ -1,6 +1,6 @@
 use Rattle.std.proofs.Common.{◌≡◌, ℕ, ◌<◌, ◌^◌, ◌⊎◌, inl, inr, arith}
 use Rattle.std.specs.Prelude.{min}
-use Rattle.worker_watch.specs.declared.watch.ServiceStage.TheVariants.{Ended, Serving}
+use Rattle.exchange_core.specs.declared.watch.ServiceStage.TheVariants.{Ended, Serving}
 use Rattle.udp_workers.proofs.worker.Worker.run.Goals as goal
 
 -- nobody ends an unwatched run

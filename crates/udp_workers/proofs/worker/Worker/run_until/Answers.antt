@@ -41,7 +41,8 @@ loop-made-preserved g c =
       later = later_on c.args.pass.now l.pass made.new.pass l.invariant.later made.ensures.later;
       handed =
           gives_on (g.V.Watch.given c.args.watch.now) c.args.pass.now l.pass made.new.pass l.invariant.handed
-          (subst (λ (watch : g.row.V.Denot). GivesAll (g.V.Watch.given watch) l.pass made.new.pass) l.invariant.watch made.ensures.handed);
+          (subst (λ (watch : g.row.V.Denot). GivesAll (g.V.Watch.given watch) l.pass made.new.pass) l.invariant.watch
+          made.ensures.handed);
       place = made.ensures.place ∙ l.invariant.place;
       peers = made.ensures.peers ∙ l.invariant.peers;
       intake = (
@@ -53,11 +54,16 @@ loop-made-preserved g c =
           all,
           passed_by (g.W.Wire.came l.wire) (g.W.Wire.went l.wire),
           l.invariant.intake.1,
-          must_tick c.args.intake l.before c.now-time.result l.end.was_full all l.invariant.intake.0 l.invariant.intake.2 c.ticks_all.ensures,
-          subst (λ from. MakesTurn c.args.intake c.args.exchange.now c.args.self.now.peers all view l.inbox.datagram made.new.inbox.datagram l.tally.report.received made.new.tally.report.received l.pass made.new.pass
-              from (passed_by (g.W.Wire.came made.new.wire) (g.W.Wire.went made.new.wire))) (passed_same c.pause.ensures.came c.pause.ensures.went)
-              (subst (λ peers. MakesTurn c.args.intake c.args.exchange.now peers all view l.inbox.datagram made.new.inbox.datagram l.tally.report.received made.new.tally.report.received l.pass made.new.pass
-              (passed_by (g.W.Wire.came c.pause.new.wire) (g.W.Wire.went c.pause.new.wire)) (passed_by (g.W.Wire.came made.new.wire) (g.W.Wire.went made.new.wire)))
+          must_tick c.args.intake l.before c.now-time.result l.end.was_full all l.invariant.intake.0 l.invariant.intake.2
+              c.ticks_all.ensures,
+          subst (λ from. MakesTurn c.args.intake c.args.exchange.now c.args.self.now.peers all view l.inbox.datagram
+              made.new.inbox.datagram l.tally.report.received made.new.tally.report.received l.pass made.new.pass
+              from (passed_by (g.W.Wire.came made.new.wire) (g.W.Wire.went made.new.wire)))
+              (passed_same c.pause.ensures.came c.pause.ensures.went)
+              (subst (λ peers. MakesTurn c.args.intake c.args.exchange.now peers all view l.inbox.datagram made.new.inbox.datagram
+              l.tally.report.received made.new.tally.report.received l.pass made.new.pass
+              (passed_by (g.W.Wire.came c.pause.new.wire) (g.W.Wire.went c.pause.new.wire))
+              (passed_by (g.W.Wire.came made.new.wire) (g.W.Wire.went made.new.wire)))
               l.invariant.peers made.ensures.turn),
         ),
         refl,

@@ -15,14 +15,17 @@ invariant-loop-made g l = record {
   watch : l.tally.watch.now ≡ l.watch;
   given : RisesBy (g.W.Wire.given l.fn.wire) (g.W.Wire.given l.wire) (l.tally.report.sent + l.tally.report.lost);
   failures : RisesBy (g.W.Wire.failures l.fn.wire) (g.W.Wire.failures l.wire) l.tally.report.faults;
-  counts : CountsSends nothing l.tally.report (g.W.Wire.went l.fn.wire) (g.W.Wire.went l.wire) (g.W.Wire.sent l.fn.wire) (g.W.Wire.sent l.wire);
+  counts : CountsSends nothing l.tally.report (g.W.Wire.went l.fn.wire) (g.W.Wire.went l.wire) (g.W.Wire.sent l.fn.wire)
+      (g.W.Wire.sent l.wire);
   wire : g.W.Wire.peers l.wire ≡ g.W.Wire.peers l.fn.wire;
   steps : l.fn.pass.credit.steps + l.tally.report.received ≤ l.pass.credit.steps + l.tally.report.refused;
   later : IsLater l.fn.pass l.pass;
   handed : GivesAll (g.V.Watch.given l.watch) l.fn.pass l.pass;
   place : l.self.place ≡ l.fn.self.place;
   peers : l.self.peers ≡ l.fn.self.peers;
-  intake : (turns : List TurnView) × MakesAllTurns l.intake l.exchange l.fn.self.peers turns l.inbox.datagram l.tally.report.received l.fn.pass l.pass
-      (record { came = g.W.Wire.came l.fn.wire; went = g.W.Wire.went l.fn.wire }) (record { came = g.W.Wire.came l.wire; went = g.W.Wire.went l.wire }) × (l.before ≡ last_moment turns);
+  intake : (turns : List TurnView) × MakesAllTurns l.intake l.exchange l.fn.self.peers turns l.inbox.datagram
+      l.tally.report.received l.fn.pass l.pass
+      (record { came = g.W.Wire.came l.fn.wire; went = g.W.Wire.went l.fn.wire })
+      (record { came = g.W.Wire.came l.wire; went = g.W.Wire.went l.wire }) × (l.before ≡ last_moment turns);
   turns : RisesBy l.fn.self.turns l.self.turns l.made;
 }

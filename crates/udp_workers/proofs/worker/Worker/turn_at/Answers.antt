@@ -1,6 +1,6 @@
 use Rattle.std.proofs.Common.{Bor, ◌≢◌, ℕ, ◌<◌, List, ◌∙◌, arith, subst, sym, ap, length, rules}
 use Rattle.std.specs.Prelude.{All, AllPairs}
-use Rattle.noted_steps.specs.Notes.{Noted}
+use Rattle.step_log.specs.Notes.{Noted}
 use Rattle.peer_accounts.specs.Accounts.{Credit}
 use Rattle.peer_plan.specs.Plan.{IsPlan}
 use Rattle.peer_plan.specs.declared.endpoint.Endpoint.{Endpoint}
@@ -36,12 +36,14 @@ empty_due-was_full-requires-clause-apart g c κs within =
     let ends = g.W.Wire.peers c.args.wire.now in
     let sound : IsPlan plan = subst IsPlan c.plan.ensures c.peer_count-peers.ensures.sound in
     let are : AreEndpoints plan self.peers ends = c.requires.wire in
-    let apart = endpoints_apart plan self.place ends sound (subst (λ (peers : List ℕ). AreEndpoints plan peers ends) c.requires.peers are) in
+    let apart = endpoints_apart plan self.place ends sound (subst (λ (peers : List ℕ). AreEndpoints plan peers ends)
+    c.requires.peers are) in
     subst (AllPairs (λ (one other : Endpoint). one ≢ other)) (sym c.receive_all.ensures.peers) apart
 
 pub returns-clause-each : goal.returns-clause-each
 returns-clause-each g c to =
-    subst (λ (first : ℕ). RisesByAtMost 256 first (g.W.Wire.given_to c.empty_due-was_full.new.wire to)) (c.receive_all.ensures.given_to to) (c.empty_due-was_full.ensures.each to)
+    subst (λ (first : ℕ). RisesByAtMost 256 first (g.W.Wire.given_to c.empty_due-was_full.new.wire to))
+    (c.receive_all.ensures.given_to to) (c.empty_due-was_full.ensures.each to)
 
 pub returns-clause-later : goal.returns-clause-later
 returns-clause-later g c =
@@ -52,12 +54,14 @@ returns-clause-later g c =
     let peers = c.as_slice-peers.result.now in
     subst (IsLater c.args.pass.now) (sym c.wake_others.ensures)
     (later_on c.args.pass.now arrived sent c.receive_all.ensures.later
-    (later_on arrived ticked sent (due_later plan c.args.turn.now.time c.args.turn.now.all peers arrived ticked c.tick_due-has_left_out.ensures.ticked)
+    (later_on arrived ticked sent (due_later plan c.args.turn.now.time c.args.turn.now.all peers arrived ticked
+    c.tick_due-has_left_out.ensures.ticked)
     (empties_later plan c.args.turn.now.all peers ticked sent _ _ c.empty_due-was_full.ensures.empties)))
 
 pub returns-clause-steps : goal.returns-clause-steps
 returns-clause-steps g c =
-    let same = empties_same c.args.turn.now.exchange.now c.args.turn.now.all c.as_slice-peers.result.now c.tick_due-has_left_out.new.pass c.empty_due-was_full.new.pass _ _ c.empty_due-was_full.ensures.empties in
+    let same = empties_same c.args.turn.now.exchange.now c.args.turn.now.all c.as_slice-peers.result.now
+    c.tick_due-has_left_out.new.pass c.empty_due-was_full.new.pass _ _ c.empty_due-was_full.ensures.empties in
     let steps = ap (λ (credit : Credit). credit.steps) (ap (λ (pass : Noted). pass.credit) c.wake_others.ensures ∙ same) in
     let received = c.empty_due-was_full.ensures.received ∙ c.tick_due-has_left_out.ensures.only.received in
     let refused = c.empty_due-was_full.ensures.refused ∙ c.tick_due-has_left_out.ensures.only.refused in
@@ -87,15 +91,22 @@ returns-clause-turn g c =
     let own = c.as_slice-peers.ensures.value ∙ ap (λ (worker : WorkerView). worker.peers) c.self.view_is in
     let counted = c.empty_due-was_full.ensures.received ∙ c.tick_due-has_left_out.ensures.only.received in
     let sent =
-    subst (λ first. EmptiesDue plan turn.all c.as_slice-peers.result.now ticked c.wake_others.new.pass first went_now) c.receive_all.ensures.went
-    (subst (λ end. EmptiesDue plan turn.all c.as_slice-peers.result.now ticked end (g.W.Wire.went c.receive_all.new.wire) went_now) (sym c.wake_others.ensures) c.empty_due-was_full.ensures.empties) in
+    subst (λ first. EmptiesDue plan turn.all c.as_slice-peers.result.now ticked c.wake_others.new.pass first went_now)
+    c.receive_all.ensures.went
+    (subst (λ end. EmptiesDue plan turn.all c.as_slice-peers.result.now ticked end (g.W.Wire.went c.receive_all.new.wire)
+    went_now) (sym c.wake_others.ensures) c.empty_due-was_full.ensures.empties) in
     record {
       taken = arrived;
       takes =
-          subst (λ end. TakesIn turn.intake plan (record { stage = turn.stage; now = turn.time; challenge = turn.challenge.now }) c.args.inbox.now.datagram c.receive_all.new.inbox.datagram
-          c.args.tally.now.report.received c.empty_due-was_full.new.tally.report.received c.args.pass.now arrived came end) (sym c.empty_due-was_full.ensures.came)
-          (subst (λ (n : ℕ). TakesIn turn.intake plan (record { stage = turn.stage; now = turn.time; challenge = turn.challenge.now }) c.args.inbox.now.datagram c.receive_all.new.inbox.datagram
-          c.args.tally.now.report.received n c.args.pass.now arrived came (g.W.Wire.came c.receive_all.new.wire)) (sym counted) c.receive_all.ensures.takes);
+          subst (λ end. TakesIn turn.intake plan (record { stage = turn.stage; now = turn.time; challenge = turn.challenge.now })
+          c.args.inbox.now.datagram c.receive_all.new.inbox.datagram
+          c.args.tally.now.report.received c.empty_due-was_full.new.tally.report.received c.args.pass.now arrived came end)
+          (sym c.empty_due-was_full.ensures.came)
+          (subst (λ (n : ℕ). TakesIn turn.intake plan
+          (record { stage = turn.stage; now = turn.time; challenge = turn.challenge.now }) c.args.inbox.now.datagram
+          c.receive_all.new.inbox.datagram
+          c.args.tally.now.report.received n c.args.pass.now arrived came (g.W.Wire.came c.receive_all.new.wire)) (sym counted)
+          c.receive_all.ensures.takes);
       ticked = ticked;
       ticks = subst (λ peers. TicksDue plan turn.time turn.all peers arrived ticked) own c.tick_due-has_left_out.ensures.ticked;
       empties = subst (λ peers. EmptiesDue plan turn.all peers ticked c.wake_others.new.pass went went_now) own sent;
@@ -107,8 +118,10 @@ returns-clause-handed g c =
     let arrived = c.receive_all.new.pass in
     let ticked = c.tick_due-has_left_out.new.pass in
     let sent = c.empty_due-was_full.new.pass in
-    let ticks = subst (λ (w : Bor g.row.V.Denot). GivesAll (g.V.Watch.given w.now) arrived ticked) c.receive_all.ensures.watch c.tick_due-has_left_out.ensures.handed in
-    let empties = empties_gives given c.args.turn.now.exchange.now c.args.turn.now.all c.as_slice-peers.result.now ticked sent _ _ c.empty_due-was_full.ensures.empties in
+    let ticks = subst (λ (w : Bor g.row.V.Denot). GivesAll (g.V.Watch.given w.now) arrived ticked) c.receive_all.ensures.watch
+    c.tick_due-has_left_out.ensures.handed in
+    let empties = empties_gives given c.args.turn.now.exchange.now c.args.turn.now.all c.as_slice-peers.result.now ticked sent _ _
+    c.empty_due-was_full.ensures.empties in
     subst (GivesAll given c.args.pass.now) (sym c.wake_others.ensures)
     (gives_on given c.args.pass.now arrived sent c.receive_all.ensures.handed (gives_on given arrived ticked sent ticks empties))
 

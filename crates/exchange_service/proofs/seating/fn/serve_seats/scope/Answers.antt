@@ -1,6 +1,6 @@
 use denote.Param.Send.{sendable}
 use Rattle.exchange_service.proofs.seating.fn.serve_seats.scope.Goals as goal
-use Rattle.worker_seats.proofs.Sending.{traced_send}
+use Rattle.worker_setup.proofs.Sending.{traced_send}
 
 -- that the parameters may be sent to other threads, only by their own bounds: among all that the closure captures, the
 -- search fails

@@ -4,4 +4,5 @@ use Rattle.exchange_tests.proofs.tests.steps_by_hand.peer_steps.is_whole.Goals a
 
 pub returns-in-Ok : goal.returns-in-Ok
 returns-in-Ok c =
-    λ whole cut. let clash = c.in-Ok.ensures.only_cut cut.1.0 (subst (λ octets. IsElementCutAt octets cut.1.0) (sym c.payload.ensures) cut.1.1) in search rules
+    λ whole cut. let clash = c.in-Ok.ensures.only_cut cut.1.0 (subst (λ octets. IsElementCutAt octets cut.1.0)
+    (sym c.payload.ensures) cut.1.1) in search rules

@@ -4,4 +4,5 @@ use Rattle.layer_tests.proofs.tests.peer.desk.is_whole.Goals as goal
 
 pub returns-in-Ok : goal.returns-in-Ok
 returns-in-Ok c =
-    λ whole cut. let clash = c.in-Ok.ensures.only_cut cut.1.0 (subst (λ octets. IsElementCutAt octets cut.1.0) (sym c.payload.ensures) cut.1.1) in search rules
+    λ whole cut. let clash = c.in-Ok.ensures.only_cut cut.1.0 (subst (λ octets. IsElementCutAt octets cut.1.0)
+    (sym c.payload.ensures) cut.1.1) in search rules

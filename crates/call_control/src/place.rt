@@ -1,0 +1,85 @@
+//! The place of a call among its steps.
+ghost use Rattle.std.specs.Prelude.{◌≡◌};
+
+use crate::act::Act;
+use call_book::LegName;
+use leg_machine::{Cause, Format, Signal};
+
+/// The place of a call among its steps. A peer is its place in the plan.
+#[derive(Clone, Copy)]
+pub enum Place {
+    /// A datagram of this peer came.
+    Datagram(u16),
+    /// The datagram needs a number for its leg.
+    ReserveIn(u16),
+    /// No number is free for the NEW: it is rejected.
+    RejectNew(u16),
+    /// The leg of the NEW is opened under this name.
+    OpenIn(LegName),
+    /// The opening was refused; the name was never bridged.
+    GiveBack(LegName),
+    /// This leg is offered.
+    Routing(LegName),
+    /// The offered leg is rejected.
+    Rejecting(LegName, Cause),
+    /// The call of the offered leg leads to this peer, in this format.
+    ReserveOut(LegName, u16, Format),
+    /// The offered leg, and the name of its far leg.
+    Bridging(LegName, LegName, Format),
+    /// The offered leg is accepted, before its far leg is opened.
+    Accepting(LegName, LegName, Format),
+    /// The far leg of the offered one is opened.
+    OpenOut(LegName, LegName),
+    /// This far leg is new, and its name may have lost its partner.
+    Checking(LegName),
+    /// The call of the offered leg was refused: the name of its far leg is returned, then the offered leg is doomed.
+    Undoing(LegName, LegName),
+    /// This leg is doomed, for this cause.
+    Dooming(LegName, Cause),
+    /// The signal of this leg is for its partner.
+    Finding(LegName, Act),
+    /// The partner gets the order.
+    Passing(LegName, Act),
+    /// This leg is finished.
+    Looking(LegName),
+    /// The leg of this peer and number, if there is one, is finished.
+    LookingAt(u16, u16),
+    /// This leg owes: its partner is hung up, for the cause of the leg's end.
+    FindingPartner(LegName, Cause),
+    /// The leg that owes, and its partner.
+    HangingUp(LegName, LegName, Cause),
+    /// The partner of this leg is hung up, or there is none.
+    Paying(LegName, Cause),
+    /// This leg is taken out, if it can be.
+    Retiring(LegName, Cause),
+    /// This leg was taken out.
+    Freeing(LegName, Cause),
+    /// This peer is ticked.
+    Tick(u16),
+    /// This leg is hung up from outside.
+    HangUp(LegName),
+    /// A call to this peer is made from outside.
+    ReserveCall(u16),
+    /// The leg of that call is opened.
+    OpenCall(LegName),
+    /// Nothing is left to be done.
+    End,
+}
+
+impl Place {
+    ghost use Rattle.call_control.specs.Work.{place_for};
+
+    /// Returns the first place for a leg's signal, or `None` if it needs no step.
+    pub fn for_signal(name: LegName, signal: Signal) -> Option<Place>
+        ensures { result ≡ place_for name signal }
+    {
+        match signal {
+            Signal::Offered => Some(Place::Routing(name)),
+            Signal::Indicated(indication) => Some(Place::Finding(name, Act::Indicate(indication))),
+            Signal::Answered => Some(Place::Finding(name, Act::Answer)),
+            Signal::Dtmf(digit) => Some(Place::Finding(name, Act::Dtmf(digit))),
+            Signal::Media(span) => Some(Place::Finding(name, Act::Media(span))),
+            Signal::Hangup => None,
+        }
+    }
+}

@@ -1,6 +1,0 @@
-//! Runs of the peers and the book that are stored, while many calls are made at once, and laws about them ("Call Setup").
-#![tactic(auto)]
-
-pub mod book_calls;
-pub mod laws;
-pub mod peer_calls;

@@ -1,0 +1,76 @@
+-- The changes of a client while it is served, and that no other client changes.
+use Rattle.std.specs.Prelude.{◌≡◌, ◌≤◌, ◌⊎◌, ℕ, List, Bool, true, false, Option, Some, None}
+use Rattle.std.specs.Prelude.{slice_get, slice_set, take, vec_len}
+use Rattle.control_server.specs.declared.client.Client.{Client}
+use Rattle.control_server.specs.declared.client.ClientStage.{ClientStage}
+use Rattle.control_server.specs.declared.client.ClientStage.TheVariants.{Asking, Answered, Draining, Ended}
+
+-- it is the same connection
+pub record IsSameClient (old new : Client) : Type 0 where
+  pub stream : new.stream ≡ old.stream
+  pub door : new.door ≡ old.door
+  pub since : new.since ≡ old.since
+
+-- its input was read: octets may follow those that were read before, and it may have ended
+pub record WasHeard (old new : Client) : Type 0 where
+  pub same : IsSameClient old new
+  pub input : take (vec_len old.input) new.input.items ≡ old.input.items
+  pub output : new.output ≡ old.output
+  pub sent : new.sent ≡ old.sent
+  pub stage : (new.stage ≡ old.stage) ⊎ (new.stage ≡ Ended)
+
+-- output was sent to it: more octets of its answer may be sent; it drains once all are, or it has ended
+pub record WasSpoken (old new : Client) : Type 0 where
+  pub same : IsSameClient old new
+  pub input : new.input ≡ old.input
+  pub sent : old.sent ≤ new.sent
+  pub bound : old.sent ≤ vec_len old.output → new.sent ≤ vec_len old.output
+  pub stage : (new.stage ≡ old.stage) ⊎ ((new.stage ≡ Ended) ⊎ ((new.stage ≡ Draining) × (new.sent ≡ vec_len old.output)))
+
+-- the number of octets of its answer that are kept
+abbrev pub kept_in : ClientStage → ℕ → ℕ
+kept_in Asking kept = 0
+kept_in Answered kept = kept
+kept_in Draining kept = 0
+kept_in Ended kept = 0
+
+abbrev pub kept_of : Client → ℕ
+kept_of client = kept_in client.stage (vec_len client.output)
+
+-- it has ended
+abbrev pub ended_at : ClientStage → Bool
+ended_at Asking = false
+ended_at Answered = false
+ended_at Draining = false
+ended_at Ended = true
+
+abbrev pub has_ended : Client → Bool
+has_ended client = ended_at client.stage
+
+-- its answer isn't sent
+abbrev pub answered_at : ClientStage → Bool
+answered_at Asking = false
+answered_at Answered = true
+answered_at Draining = false
+answered_at Ended = false
+
+abbrev pub is_answered : Client → Bool
+is_answered client = answered_at client.stage
+
+-- It was served: none of its octets is lost, it asks for nothing more, and its answer stays until it is sent or the client
+-- ends.
+pub record WasServed (old new : Client) : Type 0 where
+  pub same : IsSameClient old new
+  pub input : take (vec_len old.input) new.input.items ≡ old.input.items
+  pub asks : new.stage ≡ Asking → old.stage ≡ Asking
+  pub answered : new.stage ≡ Answered → (old.stage ≡ Asking) ⊎ (old.stage ≡ Answered)
+  pub ended : old.stage ≡ Ended → new.stage ≡ Ended
+  pub answer : old.stage ≡ Answered → new.stage ≡ Answered → new.output ≡ old.output
+
+-- P relates the client that is found at a place before and after, and all others are as they were
+abbrev pub AtFound : (Client → Client → Type 0) → ℕ → List Client → List Client → Option Client → Type 0
+AtFound P place old new None = new ≡ old
+AtFound P place old new (Some client) = (after : Client) × P client after × (new ≡ slice_set old place after)
+
+abbrev pub At : (Client → Client → Type 0) → ℕ → List Client → List Client → Type 0
+At P place old new = AtFound P place old new (slice_get old place)

@@ -1,6 +1,0 @@
-use Rattle.std.proofs.Common.{sym}
-use Rattle.noted_steps.proofs.Noting.{noted_as}
-use Rattle.noted_steps.proofs.noted_book.NotedBook.bridge.Goals as goal
-
-pub returns-clause-noted : goal.returns-clause-noted
-returns-clause-noted g c = rw (sym c.pass.view_is) (noted_as c.pass.inside.credits c.push.ensures.begun c.push.ensures.items)

@@ -1,7 +1,0 @@
-use Rattle.std.proofs.Common.{refl, sym}
-use Rattle.noted_steps.proofs.noted_peer.NotedPeer.datagram_read.Goals as goal
-
-pub returns : goal.returns
-returns g c =
-    let made = c.datagram_read-answer.ensures in
-    rw (sym c.self.view_is, sym c.pass.view_is) record { noted = record { made = rw (sym c.octets.ensures, sym c.of-octets.ensures, sym c.of-handed.ensures) c.push.ensures.items; begun = c.push.ensures.begun }; number = refl; made = made.made; worked = made.worked; unrefused = made.unrefused; unworked = made.unworked; refused = made.refused; err = made.err }

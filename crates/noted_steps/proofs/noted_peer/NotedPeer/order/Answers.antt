@@ -1,7 +1,0 @@
-use Rattle.std.proofs.Common.{refl, sym}
-use Rattle.noted_steps.proofs.noted_peer.NotedPeer.order.Goals as goal
-
-pub returns : goal.returns
-returns g c =
-    let made = c.order-answer.ensures in
-    rw (sym c.self.view_is, sym c.pass.view_is) record { noted = record { made = rw (sym c.kind.ensures, sym c.media_in.ensures) c.push.ensures.items; begun = c.push.ensures.begun }; number = refl; peer = made.peer; step = made.step; octets = made.octets; steps = made.steps; unrefused = made.unrefused; refused = made.refused; memory = made.memory; err = made.err }

@@ -1,2 +1,0 @@
-mod Freshness
-mod Following

@@ -1,0 +1,13 @@
+-- Label values, read back.
+use Rattle.std.proofs.Common.{◌≡◌, ℕ, List, [], ◌∷◌, ◌++◌, Bool, true, false, nat_eq, refl, ap, ◌∙◌, arith}
+use Rattle.std.proofs.lemmas.Bool.Decides.{nat_tests}
+use Rattle.std.specs.List.{flat_map}
+use Rattle.service_state.specs.Metrics.{value_octet, read_value}
+
+one_octet : (octet : ℕ) (rest : List ℕ) → read_value (value_octet octet ++ rest) ≡ octet ∷ read_value rest
+one_octet octet rest = grind (arith, nat_tests)
+
+pub read_back : (octets : List ℕ) → read_value (flat_map value_octet octets) ≡ octets
+read_back [] = refl
+read_back (octet ∷ octets) =
+    one_octet octet (flat_map value_octet octets) ∙ ap (λ (rest : List ℕ). octet ∷ rest) (read_back octets)

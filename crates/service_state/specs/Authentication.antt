@@ -1,0 +1,13 @@
+-- How the authentication of a leg's call failed (RFC 5456, "Authentication").
+use Rattle.std.specs.Prelude.{◌≡◌, Option, None, Some, true}
+use Rattle.call_records.specs.declared.call_end.CallEnd.{CallEnd}
+use Rattle.call_records.specs.declared.call_end.Ending.TheVariants as endings
+use Rattle.call_records.specs.declared.call_row.CallRow.{CallRow}
+
+-- the leg was challenged, and the exchange rejected its call before it was offered: the answer was wrong
+pub record WasAnsweredWrongly (leg : CallRow) : Type 0 where
+  pub challenged : leg.challenged ≡ true
+  pub unoffered : leg.moments.offered ≡ None
+  pub end : CallEnd
+  pub ended : leg.leg.end ≡ Some end
+  pub rejected : end.how ≡ endings.RejectedHere

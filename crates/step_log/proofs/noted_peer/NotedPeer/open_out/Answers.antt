@@ -1,0 +1,24 @@
+use Rattle.std.proofs.Common.{refl, sym}
+use Rattle.step_log.proofs.noted_peer.NotedPeer.open_out.Goals as goal
+
+pub returns : goal.returns
+returns g c =
+    let made = c.open_out-answer.ensures in
+    rw (sym c.self.view_is, sym c.pass.view_is)
+    record {
+      noted = record {
+        made = rw (sym c.name-name.ensures, sym c.of.ensures, sym c.of-2.ensures, sym c.told.ensures)
+            c.push.ensures.items;
+        begun = c.push.ensures.begun;
+      };
+      number = refl;
+      peer = made.peer;
+      step = made.step;
+      credit = made.credit;
+      unrefused = made.unrefused;
+      refused = made.refused;
+      lease = made.lease;
+      err = made.err;
+      no_memory =
+          made.no_memory;
+    }

@@ -1,0 +1,4 @@
+pub mod Followed
+pub mod Notes
+pub mod Stepped
+pub mod Trails

@@ -1,0 +1,27 @@
+//! The workers of a plan in their seats: each has a UDP socket, the system's clock, and challenges of random digits. They
+//! note the exchange's input in a trace if there is one, and report their counts.
+#![tactic(auto)]
+
+mod clock;
+mod digits;
+mod drawing;
+mod reports;
+mod seat_context;
+mod seats;
+mod service_error;
+mod skipping;
+mod sockets;
+mod spare_pass;
+mod traced_wire;
+
+pub use clock::SinceOpening;
+pub use digits::Digits;
+pub use drawing::{with_drawn, with_drawn_key};
+pub use reports::{reports_of, tell_reports};
+pub use seat_context::SeatContext;
+pub use seats::{ServiceSeat, seats_of};
+pub use service_error::{ServiceError, service_error_name};
+pub use skipping::{first_serial, skip_numbers};
+pub use sockets::{PlainSockets, Sockets, room_of};
+pub use spare_pass::with_spare_pass;
+pub use traced_wire::{TracedWire, lane_of};
