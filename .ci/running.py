@@ -10,13 +10,16 @@ import resource
 import socket
 import subprocess
 import sys
+import tomllib
 
+from iax_test import plans, service
+from iax_test.control import answer_to, read_all, request
 from iax_test.ports import LOOPBACK, is_spare
 from iax_test.protocol import Element
-from iax_test.waits import Failed, within
+from iax_test.service import PROGRAM
+from iax_test.waits import Failed
 
 TOP = os.path.dirname(os.path.dirname(os.path.realpath(__file__)))
-PROGRAM = os.environ.get("EXCHANGE_MAIN") or f"{TOP}/crates/exchange_main/out/exchange_main"
 PART = os.path.basename(sys.argv[0])
 # Below those of endurance/, which begin at 11000.
 PORTS = itertools.count(6000 + 1000 * ("service", "control", "call_files", "traces", "sizes").index(PART))
@@ -49,14 +52,12 @@ def plan_text(workers, peers, head="format = 1"):
     """Returns the text of a plan: its head, its workers, each an address and a port, and its peers. A peer is a name, its
     port at loopback, the place of its worker, its number of call numbers, and further lines. Numbers that begin with 3 lead
     to the peer `east`, if there is one."""
-    text = head + "\n" + "".join(f'[[worker]]\naddress = "{address}"\nport = {port}\n' for address, port in workers)
-    for name, port, worker, numbers, *lines in peers:
-        text += f'[[peer]]\nname = "{name}"\naddress = "{LOOPBACK}"\nport = {port}\nworker = {worker}\n'
-        # (a peer of these tests expects no POKE, unless it says so)
-        if "format = 4" in head and not any(line.startswith("qualify_ms") for line in lines):
-            lines = [*lines, "qualify_ms = 0"]
-        text += f'formats = ["ulaw"]\nnumbers = {numbers}\n' + "".join(f"{line}\n" for line in lines)
-    return text + ('[[route]]\nprefix = "3"\npeer = "east"\n' if "east" in [peer[0] for peer in peers] else "")
+    rows = [
+        {"name": name, "port": port, "worker": worker, "numbers": numbers} | tomllib.loads("\n".join(lines))
+        for name, port, worker, numbers, *lines in peers
+    ]
+    routes = [("3", row["name"]) for row in rows if row["name"] == "east"]
+    return plans.plan_text(tomllib.loads(head), workers, rows, routes)
 
 
 def write_plan(file, worker, west, east):
@@ -93,20 +94,6 @@ def spare_tcp_port():
     return spare(socket.SOCK_STREAM)
 
 
-def connected(path):
-    client = socket.socket(socket.AF_UNIX)
-    client.settimeout(10)
-    client.connect(path)
-    return client
-
-
-def read_all(client):
-    octets = b""
-    while piece := client.recv(65536):
-        octets += piece
-    return octets
-
-
 def status_and_body(octets):
     head, _, body = octets.partition(b"\r\n\r\n")
     lines = head.split(b"\r\n")
@@ -117,20 +104,16 @@ def status_and_body(octets):
 
 def said(path, octets):
     """Returns the service's answer to these octets."""
-    with connected(path) as client:
-        client.sendall(octets)
-        return status_and_body(read_all(client))
+    return status_and_body(answer_to(path, octets))
 
 
 def ask(path, method, target, body=None):
-    octets = b"" if body is None else json.dumps(body).encode()
-    head = f"{method} {target} HTTP/1.1\r\nHost: x\r\nContent-Length: {len(octets)}\r\n\r\n"
-    return said(path, head.encode() + octets)[:2]
+    return said(path, request(method, target, body))[:2]
 
 
 def ctl(path, *words):
     """Returns the output of `ctl`, and its status."""
-    done = subprocess.run([PROGRAM, "ctl", path, *words], capture_output=True, text=True, timeout=20)
+    done = subprocess.run([*PROGRAM, "ctl", path, *words], capture_output=True, text=True, timeout=20)
     return done.stdout, done.returncode
 
 
@@ -180,32 +163,12 @@ def of(name, **labels):
     return name, tuple(labels.items())
 
 
-class Service:
+class Service(service.Service):
     """The program, running, with a limit on the size of files if one is given. Its log is written to a file."""
 
     def __init__(self, plan, path, *options, environment=None, limit=None):
-        self.path = path
-        self.log = f"{path}.log"
-        with open(self.log, "ab") as log:
-            words = [PROGRAM, "run", plan, "--control", path, *options]
-            limits = (lambda: resource.setrlimit(resource.RLIMIT_FSIZE, (limit, limit))) if limit else None
-            environment = {**os.environ, **(environment or {})}
-            self.process = subprocess.Popen(words, stdout=subprocess.PIPE, stderr=log, text=True, env=environment, preexec_fn=limits)
-        within("an answer at the control socket", 10, self.answers)
-
-    def answers(self):
-        """Returns whether it answers. (Its control socket is bound before the sockets of its workers are, and answers once
-        they are.)"""
-        if self.process.poll() is not None:
-            raise Failed(f"ended with {self.process.returncode}: {self.process.stdout.read()}")
-        try:
-            return ask(self.path, "GET", "/")
-        except OSError:
-            return None
-
-    def ended(self):
-        printed, _ = self.process.communicate(timeout=20)
-        return self.process.returncode, printed
+        limits = (lambda: resource.setrlimit(resource.RLIMIT_FSIZE, (limit, limit))) if limit else None
+        super().__init__(plan, path, *options, log=f"{path}.log", environment=environment, before=limits)
 
 
 def stages(path):

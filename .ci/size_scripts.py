@@ -20,7 +20,7 @@ LATE = 2**32 + 4321
 
 def replayed(program, plan, script):
     """Returns the lines that a replay prints."""
-    found = subprocess.run([program, "replay", plan, script], capture_output=True, timeout=60)
+    found = subprocess.run([*program, "replay", plan, script], capture_output=True, timeout=60)
     same(f"status of {script}", found.returncode, 0)
     return found.stdout.decode("ascii").splitlines()
 
@@ -118,14 +118,17 @@ def a_call_of_fifty_days(folder, program):
 
 
 def five_thousand_digits(folder, program):
-    """A record has more than 10,000 entries, and each octet of a sequence number comes many times: digits are taken in order, a repeat and a gap are
-    distinguished from them, and the counts at the end are those of all frames."""
+    """A record has more than 10,000 entries, and each octet of a sequence number comes many times, in frames with and
+    without R: digits are taken in order, a repeat and a gap are distinguished from them, and the counts at the end are
+    those of all frames."""
     count = 5000
     plan = written(folder, "digits.plan", plan_text([(LOOPBACK, 4569)], [("west", 5001, 0, 4), ("east", 5002, 0, 4)], "format = 4\nping_ms = 0"))
     script, wanted = [*CALL_UP], [*SAID_UP]
     for place in range(count):
         digit, moment = digit_kind(0x30 + place % 10), 20 * place
-        script += [f"at {moment}", f"rx west {full(7, 1, moment, 1 + place, 2, digit)}", f"rx east {full(9, 5, 13, 2, 2 + place, ACK)}"]
+        # (of every seventh digit the first copy was lost)
+        received = full(7, 1, moment, 1 + place, 2, digit, is_retransmitted=place % 7 == 3)
+        script += [f"at {moment}", f"rx west {received}", f"rx east {full(9, 5, 13, 2, 2 + place, ACK)}"]
         wanted += [f"tx west {full(1, 7, moment, 2, 2 + place, ACK)}", f"tx east {full(5, 9, moment, 1 + place, 2, digit)}"]
     last = count + 1
     # A repeat of the last digit, a frame after the next one, and the next one, which hangs up.

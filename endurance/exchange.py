@@ -1,7 +1,5 @@
 """The program under load: its plan, its start and stop, and the output of its control socket, metrics and accounts; and the C
-programs of this folder.
-
-EXCHANGE_MAIN names a program other than the one that `rt ci` or `rt run` has built."""
+programs of this folder."""
 import csv
 import ctypes
 import json
@@ -11,11 +9,12 @@ import signal
 import socket
 import subprocess
 
-from iax_test.ports import is_spare, spare_port_of_system
+from iax_test.plans import plan_text
+from iax_test.ports import LOOPBACK, is_spare, spare_port_of_system
+from iax_test.service import Service
 from iax_test.waits import Failed, within
 
 HERE = os.path.dirname(os.path.realpath(__file__))
-PROGRAM = os.environ.get("EXCHANGE_MAIN", f"{os.path.dirname(HERE)}/crates/exchange_main/out/exchange_main").split()
 # The time that a step may take on a busy machine, in seconds.
 PATIENCE = 60
 # The time for which a frame waits for its acknowledgement unless a plan sets it, in milliseconds; with twenty retries a
@@ -124,52 +123,21 @@ def spare_ports(count):
 def plan_of(workers, peers, routes, **keys):
     """Returns a plan by the workers' ports, the peers by name with their keys, and the routes by prefix."""
     values = {"format": 2, "retry_ms": RETRY_MS, "max_retries": 20, "ping_ms": 2000, "record_limit": 65536} | keys
-    text = "".join(f"{name} = {value}\n" for name, value in values.items() if value is not None)
-    for port in workers:
-        text += f'[[worker]]\naddress = "127.0.0.1"\nport = {port}\n'
-    for name, given in peers.items():
-        given = {"name": name, "address": "127.0.0.1", "worker": 0, "formats": ["ulaw"]} | given
-        if values["format"] == 4:
-            # its peers expect no POKE
-            given = {"qualify_ms": 0} | given
-        text += "[[peer]]\n" + "".join(f"{key} = {json.dumps(value)}\n" for key, value in given.items())
-    return text + "".join(f'[[route]]\nprefix = "{prefix}"\npeer = "{name}"\n' for prefix, name in routes.items())
+    rows = [{"name": name} | given for name, given in peers.items()]
+    return plan_text(values, [(LOOPBACK, port) for port in workers], rows, routes.items())
 
 
-class Exchange:
+class Exchange(Service):
     """The program, running as a service. Its log is a file next to its plan."""
 
     def __init__(self, folder, plan, *options, environment=None):
         os.makedirs(folder, exist_ok=True)
-        self.plan, self.control, self.log = f"{folder}/plan.toml", f"{folder}/control", f"{folder}/log"
         self.metrics_port = spare_port_of_system(socket.SOCK_STREAM)
-        with open(self.plan, "w", encoding="utf-8") as it:
+        with open(f"{folder}/plan.toml", "w", encoding="utf-8") as it:
             it.write(plan)
-        words = [*PROGRAM, "run", self.plan, "--control", self.control, "--metrics", f"127.0.0.1:{self.metrics_port}", *options]
-        with open(self.log, "ab") as log:
-            environment = os.environ | (environment or {})
-            self.process = subprocess.Popen(words, stdout=subprocess.PIPE, stderr=log, text=True, env=environment, preexec_fn=ends_with_this)
-        within("the service answers", PATIENCE, self.answers)
-
-    def answers(self):
-        if self.process.poll() is not None:
-            raise Failed(f"the service has ended with status {self.process.returncode}: {self.process.communicate()[0]!r}")
-        return os.path.exists(self.control) and self.ask("GET", "/") is not None
-
-    def ask(self, method, target, body=None, seconds=20):
-        octets = b"" if body is None else json.dumps(body).encode()
-        with socket.socket(socket.AF_UNIX) as it:
-            it.settimeout(seconds)
-            try:
-                it.connect(self.control)
-                it.sendall(f"{method} {target} HTTP/1.1\r\nHost: x\r\nContent-Length: {len(octets)}\r\n\r\n".encode() + octets)
-                answer = b""
-                while piece := it.recv(65536):
-                    answer += piece
-            except OSError:
-                return None
-        text = answer.partition(b"\r\n\r\n")[2]
-        return json.loads(text) if text else None
+        options = ["--metrics", f"{LOOPBACK}:{self.metrics_port}", *options]
+        files = {"log": f"{folder}/log", "environment": environment}
+        super().__init__(f"{folder}/plan.toml", f"{folder}/control", *options, **files, before=ends_with_this, patience=PATIENCE)
 
     def legs(self):
         found = self.ask("GET", "/calls")
@@ -210,21 +178,8 @@ class Exchange:
         return self.printed()
 
     def printed(self):
-        try:
-            printed, _ = self.process.communicate(timeout=PATIENCE)
-        except subprocess.TimeoutExpired as late:
-            self.kill()
-            raise Failed("the service doesn't end") from late
-        return self.process.returncode, printed.splitlines()
-
-    def kill(self):
-        if self.process.poll() is None:
-            self.process.kill()
-        self.process.wait()
-
-    def logged(self):
-        with open(self.log, encoding="utf-8", errors="replace") as it:
-            return it.read()
+        status, printed = self.ended(PATIENCE)
+        return status, printed.splitlines()
 
 
 def accounts_of(lines):

@@ -12,6 +12,8 @@ from two_sites import tell_calls
 # Places in the page that the library shares (faults.c).
 DISK, WALL, MONOTONIC, SENDS, MEMORY = range(5)
 DAY, HOUR = 86_400_000, 3_600_000
+# A clock in milliseconds that has 32 bits returns to 0 here, after 49.7 days.
+PAST_32_BITS = 1 << 32
 
 
 class Page:
@@ -100,7 +102,8 @@ def full_disk(tools, report, lasts, seed):
 def jumping_clocks(tools, report, lasts, seed):
     faulty = Faulty(tools, "clock", seed)
     try:
-        ahead = 0
+        # The service is older than 49.7 days, but for the calls that the first jump finds.
+        ahead = PAST_32_BITS
         for _ in rounds(lasts):
             for place, by in ((WALL, DAY), (WALL, -2 * DAY), (MONOTONIC, ahead + 10_000), (MONOTONIC, ahead + HOUR), (WALL, 0)):
                 faulty.page.set(place, by)
@@ -112,7 +115,10 @@ def jumping_clocks(tools, report, lasts, seed):
         faulty.kill()
     jumped = faulty.page.count(WALL) + faulty.page.count(MONOTONIC)
     report.tell("clocks that jump: they were looked at", jumped > 0, looks=jumped)
-    wrong = [row for row in rows_of(f"{faulty.folder}/calls.csv") if not is_told_by_one_clock(row)]
+    rows = rows_of(f"{faulty.folder}/calls.csv")
+    late = [row for row in rows if row["answered_at_ms"] and int(row["opened_ms"]) > PAST_32_BITS]
+    report.tell("clocks that jump: calls are answered past 2^32 milliseconds", len(late) > 0, rows=len(rows), answered_late=len(late))
+    wrong = [row for row in rows if not is_told_by_one_clock(row)]
     report.tell("clocks that jump: a row's dates are as far apart as its milliseconds", not wrong, wrong_rows=len(wrong), first=wrong[:1])
     tell_calls(report, seen)
     tell_accounts(report, "the exchange with clocks that jump", status, lines)

@@ -5,7 +5,8 @@ import os
 import subprocess
 import time
 
-from exchange import PATIENCE, PROGRAM, Exchange, ended, plan_of, reported, spare_ports
+from exchange import PATIENCE, Exchange, ended, plan_of, reported, spare_ports
+from iax_test.service import PROGRAM
 from iax_test.waits import Failed
 from two_sites import tell_media
 

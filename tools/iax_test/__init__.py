@@ -1,1 +1,2 @@
-"""IAX2 for the checks of .ci/, endurance/ and bench/: frames, peers, ports and waits."""
+"""What the checks of .ci/, endurance/ and bench/ share: frames of IAX2, peers, plans, the
+program as a service, requests at a control socket, ports, waits."""
