@@ -1,9 +1,9 @@
-"""wrong_bodies [--beside DIR] [--apply] [--right] [--search] [--times] [--name] [CRATE|CRATE/BODY ..]: checks that the prover
-refuses each wrong body of crates/*/must-fail/*.md, in the function that the body changes.
+"""wrong_bodies [--beside DIR] [--apply] [--right] [--search] [--times] [--anew] [--name] [CRATE|CRATE/BODY ..]: checks that
+the prover refuses each wrong body of crates/*/must-fail/*.md, in the function that the body changes.
 
 `pages` describes the pages, `copies` and `crate_copies` the copies of crates that are tried, and `checks` how their outcome
-is read. No other goal than that of a page is checked. The last line has the counts. The exit status is 1 if a body isn't
-refused or none is tried.
+is read. No other goal than that of a page is checked. A body isn't tried again while nothing has changed on which its refusal
+depends (`kept`). The last line has the counts. The exit status is 1 if a body isn't refused or there is none.
 
 --beside DIR  runs while `rt ci` builds the libraries: DIR/ci has the output of that so far, and DIR/ended exists once it has
               ended. A crate is tried once the crates below it are proved; until the end this takes at most half of the
@@ -15,6 +15,7 @@ refused or none is tried.
               because an answer fits another body. With `--right`, prints for which functions a search finds the whole
               proof: a refusal of these is one of the change.
 --times       begins each line with the seconds that the body took, the longest first.
+--anew        tries all bodies, as `--search` and `--times` do.
 --name        looks for a goal for each of the bodies whose page names none, and writes it on the page.
 """
 import re
@@ -23,10 +24,12 @@ import tempfile
 from dataclasses import dataclass
 
 from .checks import check
+from .copies import SpoiltFunction
 from .crates import read_crates
 from .goals import GoalSearch
+from .kept import KeptRefusals, prover_digest
 from .pages import PageError, bodies_of
-from .scheduling import Build, Schedule, Selection, copies_for, tried
+from .scheduling import Build, Outcome, Schedule, Selection, copies_for, tried
 
 
 @dataclass
@@ -41,6 +44,10 @@ class Options:
         """Returns whether changed functions keep their written answers."""
         return "--search" not in self.switches
 
+    def tries_all(self):
+        """Returns whether bodies are tried whose refusal is kept."""
+        return not self.switches.isdisjoint({"--search", "--times", "--anew"})
+
     def chooses(self, crate, body):
         """Returns whether a body is tried."""
         return not self.names or crate.name in self.names or f"{crate.name}/{body.name}" in self.names
@@ -52,7 +59,7 @@ def options_in(words):
     if words[:1] == ["--beside"]:
         beside = words[1]
         words = words[2:]
-    known = {"--apply", "--right", "--search", "--times", "--name"}
+    known = {"--apply", "--right", "--search", "--times", "--anew", "--name"}
     return Options(beside, known & {*words}, [word for word in words if word not in known])
 
 
@@ -70,7 +77,8 @@ def report_of(crate, outcome):
     """Returns the line for a body."""
     body = outcome.function.body
     if outcome.reason:
-        return f"{crate.name}/{body.name}: refused, as it must be: {body.function}: {outcome.reason[:140]}"
+        when = " (in an earlier run)" if outcome.is_kept else ""
+        return f"{crate.name}/{body.name}: refused, as it must be{when}: {body.function}: {outcome.reason[:140]}"
     about = f"::{outcome.function.path}:"
     lines = [line for line in outcome.text.split("\n") if about in line or re.match(r"error|\S+: error", line)]
     return f"{crate.name}/{body.name}: NOT REFUSED: {body.function}: {' | '.join(lines[:3])[:600] or outcome.text[-300:]}"
@@ -93,20 +101,37 @@ def try_right(selection, keeps_answers):
     return lost
 
 
+def tried_or_kept(selection, prover):
+    """Returns the results for a crate's bodies. Only those are tried whose refusal isn't kept; then all are."""
+    store = KeptRefusals(selection.crate, prover)
+    kept = [(body, store.reason(body)) for body in selection.bodies]
+    known = [Outcome(SpoiltFunction(body, (), body.function), reason, "", 0.0, True) for body, reason in kept if reason]
+    outcomes = known + tried(Selection(selection.crate, [body for body, reason in kept if not reason]))
+    store.keep([(it.function.body, it.reason) for it in outcomes if it.reason])
+    return outcomes
+
+
 def try_wrong(selections, options):
     """Prints for each body whether it is refused. Returns the exit status."""
-    schedule = Schedule(selections, Build(options.beside), lambda it: tried(it, options.keeps_answers()))
+    prover = prover_digest()
+    if options.tries_all():
+        schedule = Schedule(selections, Build(options.beside), lambda it: tried(it, options.keeps_answers()))
+    else:
+        schedule = Schedule(selections, Build(options.beside), lambda it: tried_or_kept(it, prover))
     passed = 0
     failed = 0
+    kept = 0
     for crate, outcomes in schedule.results():
         if "--times" in options.switches:
             outcomes.sort(key=lambda it: -it.seconds)
         for outcome in outcomes:
             passed += bool(outcome.reason)
             failed += not outcome.reason
+            kept += outcome.is_kept
             seconds = f"{outcome.seconds:6.1f} " if "--times" in options.switches else ""
             print(seconds + report_of(crate, outcome), flush=True)
-    print(f"bodies: {passed} passed, {failed} failed")
+    earlier = f", {kept} of them in earlier runs" if kept else ""
+    print(f"bodies: {passed} passed{earlier}, {failed} failed")
     return 0 if passed and not failed else 1
 
 

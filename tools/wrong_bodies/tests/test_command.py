@@ -3,13 +3,14 @@ import contextlib
 import io
 import subprocess
 import sys
+import tempfile
 import unittest
 from pathlib import Path
 from unittest import mock
 
 from support import HERE, golden, ring_crate
 from wrong_bodies import __main__ as command
-from wrong_bodies import scheduling
+from wrong_bodies import kept, scheduling
 from wrong_bodies.checks import Output
 from wrong_bodies.copies import SpoiltFunction
 from wrong_bodies.pages import bodies_on
@@ -33,9 +34,10 @@ class OptionsTest(unittest.TestCase):
         self.assertTrue(options.keeps_answers())
 
     def test_all(self):
-        options = command.options_in(["--beside", "folder", "ring", "--right", "--search", "--times", "a/b", "--name", "--apply"])
+        switches = ["--right", "--search", "--times", "--anew", "--name", "--apply"]
+        options = command.options_in(["--beside", "folder", "ring", *switches, "a/b"])
         self.assertEqual(options.beside, "folder")
-        self.assertEqual(options.switches, {"--right", "--search", "--times", "--name", "--apply"})
+        self.assertEqual(options.switches, {*switches})
         self.assertEqual(options.names, ["ring", "a/b"])
         self.assertFalse(options.keeps_answers())
 
@@ -77,13 +79,18 @@ class Run(unittest.TestCase):
         self.page = self.crate.folder / "must-fail" / "ring.md"
         self.page.parent.mkdir()
         self.page.write_text(golden("copied.txt"), encoding="utf-8")
+        room = tempfile.TemporaryDirectory()
+        self.addCleanup(room.cleanup)
+        self.kept = Path(room.name) / "kept"
         self.proved = set()
+        self.tried = []
 
     def check(self, copy, _kept):
         """Proves the functions of `self.proved`, refuses the others."""
         text = ""
         seconds = {}
         for number, function in enumerate(copy.functions):
+            self.tried.append(function.body.name)
             seconds[function.path] = float(number)
             if function.body.name in self.proved:
                 text += f"fn ring::{function.path}: no holes\n"
@@ -100,6 +107,7 @@ class Run(unittest.TestCase):
             changes.enter_context(mock.patch.object(command, "read_crates", lambda: {"ring": self.crate}))
             changes.enter_context(mock.patch.object(command, "check", self.check))
             changes.enter_context(mock.patch.object(scheduling, "check", self.check))
+            changes.enter_context(mock.patch.object(kept, "FOLDER", self.kept))
             changes.enter_context(contextlib.redirect_stdout(printed))
             changes.enter_context(contextlib.redirect_stderr(errors))
             status = command.main([*words])
@@ -136,6 +144,32 @@ class Run(unittest.TestCase):
     def test_no_body(self):
         self.assertEqual(self.run_command("--help"), (1, ["bodies: 0 passed, 0 failed"], ""))
 
+    def test_refused_in_an_earlier_run(self):
+        self.run_command("ring/counts_none")
+        status, lines, _ = self.run_command("ring/counts_none", "ring/always_pushed")
+        self.assertEqual(self.tried, ["counts_none", "always_pushed"])
+        self.assertTrue(lines[0].startswith("ring/counts_none: refused, as it must be (in an earlier run): ring::Ring::count: "))
+        self.assertEqual((status, lines[-1]), (0, "bodies: 2 passed, 1 of them in earlier runs, 0 failed"))
+
+    def test_not_refused_in_an_earlier_run(self):
+        self.proved = {"counts_none"}
+        for _ in range(2):
+            self.assertEqual(self.run_command("ring/counts_none")[0], 1)
+        self.assertEqual(self.tried, ["counts_none", "counts_none"])
+
+    def test_tried_again(self):
+        for words in ([], [], ["--anew"], ["--times"], ["--search"]):
+            self.run_command(*words, "ring/counts_none")
+        self.assertEqual(self.tried, ["counts_none"] * 4)
+
+    def test_tried_again_after_a_change(self):
+        self.run_command("ring/counts_none")
+        (self.crate.folder / "proofs/Rings.antt").write_text("pub counted : Type 0\ncounted = Type 0\n", encoding="utf-8")
+        self.run_command("ring/counts_none")
+        self.page.write_text(golden("copied.txt").replace("counts_none", "counts_nothing"), encoding="utf-8")
+        self.run_command("ring/counts_nothing")
+        self.assertEqual(self.tried, ["counts_none", "counts_none", "counts_nothing"])
+
     def test_times(self):
         _, lines, _ = self.run_command("--times", "ring/counts_none", "ring/always_pushed")
         self.assertTrue(lines[0].startswith("   1.0 ring/always_pushed: refused"))
@@ -158,7 +192,7 @@ class Entry(unittest.TestCase):
 
     def test_pages_of_the_repository_can_be_applied(self):
         entry = Path(HERE).parents[2] / ".ci/wrong_bodies"
-        done = subprocess.run([sys.executable, entry, "--apply", "script_lines"], capture_output=True, text=True, check=False)
+        done = subprocess.run([sys.executable, entry, "--apply", "plain_text"], capture_output=True, text=True, check=False)
         self.assertEqual((done.returncode, done.stderr), (0, ""))
         self.assertRegex(done.stdout, r"^bodies: \d+ can be applied\n\Z")
 
