@@ -1,5 +1,6 @@
 /* Stands before the C library and refuses a program one thing, once: the request for memory whose place, counted from 1, the
-   environment has as REFUSED_MEMORY, or the thread whose place it has as REFUSED_THREAD. Says so on standard error.
+   environment has as REFUSED_MEMORY, or the thread whose place it has as REFUSED_THREAD. Says so on standard error, and also
+   when the system refuses to bind a socket.
 
    Of a file of call records (its name ends in .csv) REFUSED_WRITE is the place of the first write that fails, after REFUSED_WRITE_CUT of
    its octets, and REFUSED_WRITES how many behind it fail; with REFUSED_SYNC it can't be put on the disk. Both end once there is a file of the name
@@ -11,6 +12,7 @@
 #include <stdio.h>
 #include <stdlib.h>
 #include <string.h>
+#include <sys/socket.h>
 #include <sys/syscall.h>
 #include <unistd.h>
 
@@ -58,6 +60,21 @@ int pthread_create(pthread_t *thread, const pthread_attr_t *attributes, void *(*
         return EAGAIN;
     *(void **)&create = dlsym(RTLD_NEXT, "pthread_create");
     return create(thread, attributes, start, argument);
+}
+
+int bind(int file, const struct sockaddr *at, socklen_t length)
+{
+    static const char said[] = "bind was refused\n";
+    int status = syscall(SYS_bind, file, at, length);
+
+    if (status != 0) {
+        int fault = errno;
+
+        if (write(STDERR_FILENO, said, sizeof said - 1) < 0)
+            abort();
+        errno = fault;
+    }
+    return status;
 }
 
 static int is_of_records(int file)
