@@ -148,9 +148,9 @@ def check_http():
         members = re.findall(r'\("(\w+)", Shown', function_of(views, name))
         section = section_of(page, heading)
         names_agree(f"docs/HTTP.md, {heading[4:]}", [it for it in first_cells(section)], members)
-    errors = set(re.findall(r'Answer::error\(\s*\w+,\s*Status::\w+(?:\(\w+\))?,\s*"(\w+)"', desk))
+    errors = set(re.findall(r'Response::error\(\s*\w+,\s*StatusCode::\w+(?:\(\w+\))?,\s*"(\w+)"', desk))
     errors |= set(re.findall(r'=> "(\w+)"', function_of(desk, "fault_name")))
-    errors |= set(re.findall(r'Status::\w+, "(\w+)"\)', sources("control_server")))
+    errors |= set(re.findall(r'StatusCode::\w+, "(\w+)"\)', sources("control_server")))
     names = text_of("crates/exchange_report/src/names.rt")
     for name in ("call_error_name", "order_error_name"):
         errors |= set(re.findall(r'=> "(\w+)"', function_of(names, name)))
@@ -171,7 +171,7 @@ def check_refusals():
     wanted |= set(re.findall(r'Some\("(\w+)"\)', function_of(sources("worker_setup"), "service_error_name")))
     wanted |= set(re.findall(r'NotBound::of\(&error, "(\w+)"\)', sources("control_server")))
     wanted |= set(re.findall(r'"refused (\w+)', sources("exchange_main", "exchange_commands")))
-    wanted |= set(re.findall(r'Status::\w+(?:\(\w+\))?, "(\w+)"\)', sources("control_server", "service_api")))
+    wanted |= set(re.findall(r'StatusCode::\w+(?:\(\w+\))?, "(\w+)"\)', sources("control_server", "service_api")))
     wanted |= set(re.findall(r'=> "(\w+)"', function_of(sources("service_api"), "fault_name"))) | {"Draining"}
     page = text_of("docs/REFUSALS.md").split("\n## ", 1)[1]
     names_agree("docs/REFUSALS.md", [it.split(" ")[0] for it in first_cells(page)], wanted)

@@ -1,7 +1,7 @@
-pub mod Answer
 pub mod Command
 pub mod Digits
 pub mod Members
 pub mod Placing
 pub mod Requests
+pub mod Response
 pub mod Rows

@@ -1,20 +1,20 @@
-//! The requests of clients of the control socket, in HTTP/1.1 (RFC 9112), and the octets of each answer. Nothing here
+//! The requests of clients of the control socket, in HTTP/1.1 (RFC 9112), and the octets of each response. Nothing here
 //! waits, reads or writes.
 #![tactic(auto)]
 
-mod answer;
 mod command;
 mod digits;
 mod json_text;
 pub mod laws;
 mod placing;
 mod request;
+mod response;
 mod tables;
 mod views;
 
-pub use answer::{Answer, Status};
 pub use command::{Command, Methods, NoCommand, command_of};
 pub use placing::{PlaceFault, PlaceOrder, place_of};
 pub use request::{BODY_LIMIT, FIELD_LIMIT, HEAD_LIMIT, Reading, Request, read_request};
+pub use response::{Response, StatusCode};
 pub use tables::{TableFault, accounts_table, calls_table, peers_table};
 pub use views::{AccountsRow, CallEntry, PeerRow, Rows, accounts_body, call_body};

@@ -6,7 +6,7 @@ ghost use Rattle.control_requests.specs.declared.request.Reading.TheVariants.{Pa
 ghost use Rattle.control_server.specs.declared.client.ClientStage.TheVariants.{Asking, Answered, Draining, Ended};
 
 use crate::doors::{Door, Stream};
-use control_requests::{Answer, Reading, Status, read_request};
+use control_requests::{Reading, Response, StatusCode, read_request};
 use std::alloc::{AllocError, Global};
 use std::io::ErrorKind;
 
@@ -261,16 +261,16 @@ impl Client {
 }
 
 /// Returns an answer that names the fault.
-pub fn refusal(alloc: Global, status: Status, why: &str) -> Result<Vec<u8>, AllocError> {
-    Answer::error(alloc, status, why)?.octets(alloc)
+pub fn refusal(alloc: Global, status: StatusCode, why: &str) -> Result<Vec<u8>, AllocError> {
+    Response::error(alloc, status, why)?.octets(alloc)
 }
 
 // Returns the fault of a client's input.
-fn fault_of(reading: &Reading<'_>) -> Option<(Status, &'static str)> {
+fn fault_of(reading: &Reading<'_>) -> Option<(StatusCode, &'static str)> {
     match reading {
-        Reading::HeadTooLarge => Some((Status::HeadTooLarge, "HeadTooLarge")),
-        Reading::BodyTooLarge => Some((Status::TooLarge, "BodyTooLarge")),
-        Reading::Malformed => Some((Status::BadRequest, "Malformed")),
+        Reading::HeadTooLarge => Some((StatusCode::HeadTooLarge, "HeadTooLarge")),
+        Reading::BodyTooLarge => Some((StatusCode::TooLarge, "BodyTooLarge")),
+        Reading::Malformed => Some((StatusCode::BadRequest, "Malformed")),
         _ => None,
     }
 }

@@ -9,7 +9,7 @@ ghost use Rattle.control_server.specs.declared.client.ClientStage.TheVariants.{A
 
 use crate::client::{Client, ClientStage, refusal};
 use crate::doors::{Door, Doors, NotBound, Stream};
-use control_requests::{Reading, Request, Status};
+use control_requests::{Reading, Request, StatusCode};
 use mio::unix::SourceFd;
 use mio::{Events, Interest, Poll, Token};
 use std::alloc::{AllocError, Global};
@@ -291,7 +291,7 @@ impl Clients {
     {
         match octets {
             Ok(octets) if self.kept().saturating_add(octets.len()) > KEPT => {
-                refusal(self.alloc, Status::Unavailable, "Busy")
+                refusal(self.alloc, StatusCode::Unavailable, "Busy")
             }
             octets => octets,
         }

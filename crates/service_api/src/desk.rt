@@ -5,8 +5,8 @@ use crate::legs::{find_leg, serial_at_rest};
 use crate::showing::{ShownLeg, push_calls};
 use call_book::LegName;
 use control_requests::{
-    AccountsRow, Answer, Command, NoCommand, PeerRow, PlaceFault, PlaceOrder, Request, Rows,
-    Status, accounts_body, call_body, command_of, place_of,
+    AccountsRow, Command, NoCommand, PeerRow, PlaceFault, PlaceOrder, Request, Response, Rows,
+    StatusCode, accounts_body, call_body, command_of, place_of,
 };
 use exchange_core::{CallError, Exchange, NoGate, Pass};
 use exchange_report::{PeerLosses, call_error_name, count_legs, losses_of, peer_named};
@@ -63,9 +63,9 @@ impl<'x, J: LedgerSet> ApiHandler<'x, J> {
         alloc: Global,
         request: &Request<'_>,
         now: u64,
-    ) -> Result<Answer, AllocError> {
+    ) -> Result<Response, AllocError> {
         match command_of(request.method, request.path) {
-            Ok(Command::Table) => answered(alloc, Status::Ok, TABLE),
+            Ok(Command::Table) => answered(alloc, StatusCode::Ok, TABLE),
             Ok(Command::Peers) => self.peers(rt, alloc, now),
             Ok(Command::Calls) => self.calls(rt, alloc, now),
             Ok(Command::Call(number)) => self.call(rt, alloc, number, now),
@@ -78,11 +78,11 @@ impl<'x, J: LedgerSet> ApiHandler<'x, J> {
                 number,
             ) {
                 Some((_, name)) => self.drop_call(rt, alloc, name, now),
-                None => Answer::error(alloc, Status::NotFound, "NoLeg"),
+                None => Response::error(alloc, StatusCode::NotFound, "NoLeg"),
             },
             Ok(Command::Stop) => {
                 self.watch.lifecycle().stop();
-                answered(alloc, Status::Accepted, "{}")
+                answered(alloc, StatusCode::Accepted, "{}")
             }
             Ok(Command::StopGracefully) => {
                 self.watch.lifecycle().stop_gracefully();
@@ -95,9 +95,9 @@ impl<'x, J: LedgerSet> ApiHandler<'x, J> {
                 self.drained(alloc, rt)
             }
             Ok(Command::EndDrain) => self.end_drain(rt, alloc, now),
-            Err(NoCommand::NotFound) => Answer::error(alloc, Status::NotFound, "NotFound"),
+            Err(NoCommand::NotFound) => Response::error(alloc, StatusCode::NotFound, "NotFound"),
             Err(NoCommand::NotAllowed(methods)) => {
-                Answer::error(alloc, Status::NotAllowed(methods), "NotAllowed")
+                Response::error(alloc, StatusCode::NotAllowed(methods), "NotAllowed")
             }
         }
     }
@@ -128,11 +128,11 @@ impl<'x, J: LedgerSet> ApiHandler<'x, J> {
     }
 
     // Answers a request to drain with the number of legs that are left.
-    fn drained<R: Wait>(&mut self, alloc: Global, rt: &R) -> Result<Answer, AllocError> {
+    fn drained<R: Wait>(&mut self, alloc: Global, rt: &R) -> Result<Response, AllocError> {
         let legs = self.leg_count(rt);
         let body = format!(in alloc; "{{\"legs\":{}}}", legs)?;
-        Ok(Answer {
-            status: Status::Accepted,
+        Ok(Response {
+            status: StatusCode::Accepted,
             body,
         })
     }
@@ -143,16 +143,16 @@ impl<'x, J: LedgerSet> ApiHandler<'x, J> {
         rt: &R,
         alloc: Global,
         now: u64,
-    ) -> Result<Answer, AllocError> {
+    ) -> Result<Response, AllocError> {
         if !self.watch.lifecycle().drain(false) {
-            return Answer::error(alloc, Status::Conflict, "Draining");
+            return Response::error(alloc, StatusCode::Conflict, "Draining");
         }
         self.set_draining(rt, false, now);
-        answered(alloc, Status::Ok, "{}")
+        answered(alloc, StatusCode::Ok, "{}")
     }
 
     // `GET /peers`
-    fn peers<R: Wait>(&mut self, rt: &R, alloc: Global, now: u64) -> Result<Answer, AllocError> {
+    fn peers<R: Wait>(&mut self, rt: &R, alloc: Global, now: u64) -> Result<Response, AllocError> {
         let mut rows = Rows::new(alloc);
         self.push_peers(rt, alloc, &mut rows, now)?;
         shown(rows.into_peers(alloc))
@@ -179,7 +179,7 @@ impl<'x, J: LedgerSet> ApiHandler<'x, J> {
     }
 
     // `GET /calls`
-    fn calls<R: Wait>(&mut self, rt: &R, alloc: Global, now: u64) -> Result<Answer, AllocError> {
+    fn calls<R: Wait>(&mut self, rt: &R, alloc: Global, now: u64) -> Result<Response, AllocError> {
         let exchange = self.exchange;
         let mut rows = Rows::new(alloc);
         for peer in 0..exchange.plan().peer_count() {
@@ -195,19 +195,19 @@ impl<'x, J: LedgerSet> ApiHandler<'x, J> {
         alloc: Global,
         number: u16,
         now: u64,
-    ) -> Result<Answer, AllocError> {
+    ) -> Result<Response, AllocError> {
         let exchange = self.exchange;
         let Some(peer) = exchange.plan().owner_of(number) else {
-            return Answer::error(alloc, Status::NotFound, "NoLeg");
+            return Response::error(alloc, StatusCode::NotFound, "NoLeg");
         };
         match ShownLeg::at(rt, alloc, exchange, &mut self.pass, peer, number)? {
             Some(leg) => shown(call_body(alloc, leg.row(exchange.plan(), peer, now))),
-            None => Answer::error(alloc, Status::NotFound, "NoLeg"),
+            None => Response::error(alloc, StatusCode::NotFound, "NoLeg"),
         }
     }
 
     // `GET /accounts`: the sums over all peers, modulo 2^64. Peers are read one after another while calls continue.
-    fn accounts<R: Wait>(&mut self, rt: &R, alloc: Global) -> Result<Answer, AllocError> {
+    fn accounts<R: Wait>(&mut self, rt: &R, alloc: Global) -> Result<Response, AllocError> {
         let mut row = AccountsRow {
             accepted: 0,
             packed: 0,
@@ -234,12 +234,12 @@ impl<'x, J: LedgerSet> ApiHandler<'x, J> {
         alloc: Global,
         name: LegName,
         now: u64,
-    ) -> Result<Answer, AllocError> {
+    ) -> Result<Response, AllocError> {
         let hung_up = self.hang_up(rt, name, now);
         self.watch.wake_all();
         match hung_up {
-            Ok(()) => named(alloc, Status::Ok, name),
-            Err(why) => Answer::error(alloc, Status::Conflict, why),
+            Ok(()) => named(alloc, StatusCode::Ok, name),
+            Err(why) => Response::error(alloc, StatusCode::Conflict, why),
         }
     }
 
@@ -250,12 +250,12 @@ impl<'x, J: LedgerSet> ApiHandler<'x, J> {
         alloc: Global,
         body: &[u8],
         now: u64,
-    ) -> Result<Answer, AllocError> {
+    ) -> Result<Response, AllocError> {
         match place_of(alloc, body) {
             Ok(order) => self.place_call(rt, alloc, &order, now),
             Err(PlaceFault::Memory) => Err(AllocError),
-            Err(PlaceFault::NotJson) => Answer::error(alloc, Status::BadRequest, "NotJson"),
-            Err(fault) => Answer::error(alloc, Status::Unprocessable, fault_name(fault)),
+            Err(PlaceFault::NotJson) => Response::error(alloc, StatusCode::BadRequest, "NotJson"),
+            Err(fault) => Response::error(alloc, StatusCode::Unprocessable, fault_name(fault)),
         }
     }
 
@@ -266,13 +266,13 @@ impl<'x, J: LedgerSet> ApiHandler<'x, J> {
         alloc: Global,
         order: &PlaceOrder,
         now: u64,
-    ) -> Result<Answer, AllocError> {
+    ) -> Result<Response, AllocError> {
         let lifecycle = self.watch.lifecycle();
         if lifecycle.drains() || lifecycle.is_stopping() || lifecycle.has_ended() {
-            return Answer::error(alloc, Status::Unavailable, "Draining");
+            return Response::error(alloc, StatusCode::Unavailable, "Draining");
         }
         let Some(peer) = peer_named(self.exchange.plan(), order.peer.as_bytes()) else {
-            return Answer::error(alloc, Status::Unprocessable, "NoPeer");
+            return Response::error(alloc, StatusCode::Unprocessable, "NoPeer");
         };
         let number = order.number.as_bytes();
         if let Some(lane) = &mut self.lane {
@@ -284,20 +284,20 @@ impl<'x, J: LedgerSet> ApiHandler<'x, J> {
         }
         self.watch.wake_all();
         match called {
-            Ok(name) => named(alloc, Status::Created, name),
+            Ok(name) => named(alloc, StatusCode::Created, name),
             Err(CallError::BadNumber) => {
-                Answer::error(alloc, Status::Unprocessable, "BadNumber")
+                Response::error(alloc, StatusCode::Unprocessable, "BadNumber")
             }
-            Err(error) => Answer::error(alloc, Status::Conflict, call_error_name(error)),
+            Err(error) => Response::error(alloc, StatusCode::Conflict, call_error_name(error)),
         }
     }
 }
 
 // Returns the answer with this body, if there was memory for it.
-fn shown(body: Result<String, AllocError>) -> Result<Answer, AllocError> {
+fn shown(body: Result<String, AllocError>) -> Result<Response, AllocError> {
     match body {
-        Ok(body) => Ok(Answer {
-            status: Status::Ok,
+        Ok(body) => Ok(Response {
+            status: StatusCode::Ok,
             body,
         }),
         Err(error) => Err(error),
@@ -305,21 +305,21 @@ fn shown(body: Result<String, AllocError>) -> Result<Answer, AllocError> {
 }
 
 // Returns an answer with this body.
-fn answered(alloc: Global, status: Status, body: &str) -> Result<Answer, AllocError>
+fn answered(alloc: Global, status: StatusCode, body: &str) -> Result<Response, AllocError>
     ensures { IfOk result (λ answer. (answer.status ≡ status) × (string_bytes answer.body ≡ body.now)) }
 {
-    Ok(Answer {
+    Ok(Response {
         status,
         body: String::from_str(alloc, body)?,
     })
 }
 
 // Returns an answer that names a leg.
-fn named(alloc: Global, status: Status, name: LegName) -> Result<Answer, AllocError>
+fn named(alloc: Global, status: StatusCode, name: LegName) -> Result<Response, AllocError>
     ensures { IfOk result (λ answer. answer.status ≡ status) }
 {
     let body = format!(in alloc; "{{\"number\":{},\"serial\":{}}}", name.number, name.serial)?;
-    Ok(Answer { status, body })
+    Ok(Response { status, body })
 }
 
 // Returns the name of the reason why a body places no call.

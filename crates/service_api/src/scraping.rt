@@ -4,7 +4,7 @@ ghost use Rattle.std.specs.Prelude.{◌<◌, length};
 use crate::by_name::{push_failed_calls, push_failures, push_refusals, push_rejections};
 use crate::desk::ApiHandler;
 use crate::lost_frames::push_losses;
-use control_requests::{Answer, Methods, Request, Status};
+use control_requests::{Methods, Request, Response, StatusCode};
 use exchange_core::{Exchange, NoGate, Pass};
 use exchange_report::count_legs;
 use peer_lock::LedgerSet;
@@ -262,8 +262,8 @@ fn metrics_answer<J: LedgerSet, R: Wait>(
 }
 
 // Returns an answer that names the refusal.
-fn refusal(alloc: Global, status: Status, why: &str) -> Result<Vec<u8>, AllocError> {
-    Answer::error(alloc, status, why)?.octets(alloc)
+fn refusal(alloc: Global, status: StatusCode, why: &str) -> Result<Vec<u8>, AllocError> {
+    Response::error(alloc, status, why)?.octets(alloc)
 }
 
 /// Answers a request to the metrics' address, which serves `GET /metrics` alone. Returns the octets for the client. A
@@ -280,7 +280,7 @@ pub fn answer_scrape<J: LedgerSet, R: Wait>(
 ) -> Result<Vec<u8>, AllocError> {
     match scrape_of(request.method, request.path) {
         Scrape::Metrics => metrics_answer(rt, alloc, desk, table, now),
-        Scrape::NotFound => refusal(alloc, Status::NotFound, "NotFound"),
-        Scrape::NotAllowed => refusal(alloc, Status::NotAllowed(GET), "NotAllowed"),
+        Scrape::NotFound => refusal(alloc, StatusCode::NotFound, "NotFound"),
+        Scrape::NotAllowed => refusal(alloc, StatusCode::NotAllowed(GET), "NotAllowed"),
     }
 }

@@ -1,11 +1,11 @@
--- The answers to clients, in HTTP/1.1 (RFC 9110, section 15; RFC 9112, section 4).
+-- The responses to clients, in HTTP/1.1 (RFC 9110, section 15; RFC 9112, section 4).
 use Rattle.std.specs.Prelude.{ℕ, ◌++◌, List, [], length, codes, decimal, Bool, true, false}
 use Rattle.serde_json.specs.Data.{Data, object, member, no_members, string}
-use Rattle.control_requests.specs.declared.answer.Status.{Status}
-use Rattle.control_requests.specs.declared.answer.Status.TheVariants as status
+use Rattle.control_requests.specs.declared.response.StatusCode.{StatusCode}
+use Rattle.control_requests.specs.declared.response.StatusCode.TheVariants as status
 use Rattle.control_requests.specs.declared.command.Methods.{Methods}
 
-abbrev pub code_of : Status → ℕ
+abbrev pub code_of : StatusCode → ℕ
 code_of status.Ok = 200
 code_of status.Created = 201
 code_of status.Accepted = 202
@@ -18,7 +18,7 @@ code_of status.Unprocessable = 422
 code_of status.HeadTooLarge = 431
 code_of status.Unavailable = 503
 
-abbrev pub reason_of : Status → List ℕ
+abbrev pub reason_of : StatusCode → List ℕ
 reason_of status.Ok = codes "OK"
 reason_of status.Created = codes "Created"
 reason_of status.Accepted = codes "Accepted"
@@ -46,7 +46,7 @@ abbrev pub allow_text : Methods → List ℕ
 allow_text methods = listed methods.get methods.post methods.delete
 
 -- the line Allow, which 405 alone has
-abbrev pub allow_line : Status → List ℕ
+abbrev pub allow_line : StatusCode → List ℕ
 allow_line (status.NotAllowed methods) = codes "Allow: " ++ allow_text methods ++ codes "\r\n"
 allow_line status.Ok = []
 allow_line status.Created = []
@@ -59,10 +59,10 @@ allow_line status.Unprocessable = []
 allow_line status.HeadTooLarge = []
 allow_line status.Unavailable = []
 
--- the status line, the fields that each answer has, with the octets of its body, and those that only some have; an empty line;
+-- the status line, the fields that each response has, with the octets of its body, and those that only some have; an empty line;
 -- the body
-abbrev pub answer_text : Status → List ℕ → List ℕ
-answer_text status body =
+abbrev pub response_text : StatusCode → List ℕ → List ℕ
+response_text status body =
     codes "HTTP/1.1 " ++ (decimal (code_of status) ++ (codes " " ++ (reason_of status
     ++ (codes "\r\nContent-Type: application/json\r\nContent-Length: " ++ (decimal (length body)
     ++ (codes "\r\nConnection: close\r\n" ++ (allow_line status ++ (codes "\r\n" ++ body))))))))

@@ -1,15 +1,15 @@
-//! The answers to clients, in HTTP/1.1.
+//! The responses to clients, in HTTP/1.1.
 ghost use Rattle.std.specs.Prelude.{◌≡◌, IfOk, string_bytes};
 ghost use Rattle.serde_json.specs.Written.{compact_text};
-ghost use Rattle.control_requests.specs.Answer.{code_of, reason_of, allow_line, error_data, answer_text};
+ghost use Rattle.control_requests.specs.Response.{code_of, reason_of, allow_line, error_data, response_text};
 
 use crate::command::Methods;
 use crate::json_text::{Shown, object_text};
 use std::alloc::{AllocError, Global};
 
-/// The status of an answer.
+/// The status code of a response.
 #[derive(Clone, Copy)]
-pub enum Status {
+pub enum StatusCode {
     Ok,
     Created,
     Accepted,
@@ -24,23 +24,23 @@ pub enum Status {
     Unavailable,
 }
 
-impl Status {
-    /// Returns the number of the status, 200 ..= 503 (RFC 9110, section 15).
+impl StatusCode {
+    /// Returns the number of the status code, 200 ..= 503 (RFC 9110, section 15).
     pub fn code(self) -> u16
         ensures { result ≡ code_of self }
     {
         match self {
-            Status::Ok => 200,
-            Status::Created => 201,
-            Status::Accepted => 202,
-            Status::BadRequest => 400,
-            Status::NotFound => 404,
-            Status::NotAllowed(_) => 405,
-            Status::Conflict => 409,
-            Status::TooLarge => 413,
-            Status::Unprocessable => 422,
-            Status::HeadTooLarge => 431,
-            Status::Unavailable => 503,
+            StatusCode::Ok => 200,
+            StatusCode::Created => 201,
+            StatusCode::Accepted => 202,
+            StatusCode::BadRequest => 400,
+            StatusCode::NotFound => 404,
+            StatusCode::NotAllowed(_) => 405,
+            StatusCode::Conflict => 409,
+            StatusCode::TooLarge => 413,
+            StatusCode::Unprocessable => 422,
+            StatusCode::HeadTooLarge => 431,
+            StatusCode::Unavailable => 503,
         }
     }
 
@@ -49,26 +49,26 @@ impl Status {
         ensures { result.now ≡ reason_of self }
     {
         match self {
-            Status::Ok => "OK",
-            Status::Created => "Created",
-            Status::Accepted => "Accepted",
-            Status::BadRequest => "Bad Request",
-            Status::NotFound => "Not Found",
-            Status::NotAllowed(_) => "Method Not Allowed",
-            Status::Conflict => "Conflict",
-            Status::TooLarge => "Content Too Large",
-            Status::Unprocessable => "Unprocessable Content",
-            Status::HeadTooLarge => "Request Header Fields Too Large",
-            Status::Unavailable => "Service Unavailable",
+            StatusCode::Ok => "OK",
+            StatusCode::Created => "Created",
+            StatusCode::Accepted => "Accepted",
+            StatusCode::BadRequest => "Bad Request",
+            StatusCode::NotFound => "Not Found",
+            StatusCode::NotAllowed(_) => "Method Not Allowed",
+            StatusCode::Conflict => "Conflict",
+            StatusCode::TooLarge => "Content Too Large",
+            StatusCode::Unprocessable => "Unprocessable Content",
+            StatusCode::HeadTooLarge => "Request Header Fields Too Large",
+            StatusCode::Unavailable => "Service Unavailable",
         }
     }
 }
 
-// Returns the line `Allow` of an answer that has one.
-fn allow_line(status: Status) -> &'static str
+// Returns the line `Allow` of a response that has one.
+fn allow_line(status: StatusCode) -> &'static str
     ensures { result.now ≡ allow_line status }
 {
-    let Status::NotAllowed(methods) = status else {
+    let StatusCode::NotAllowed(methods) = status else {
         return "";
     };
     match (methods.get, methods.post, methods.delete) {
@@ -83,23 +83,23 @@ fn allow_line(status: Status) -> &'static str
     }
 }
 
-/// An answer: its status, and its body in JSON.
+/// A response: its status code, and its body in JSON.
 #[derive(Drop)]
-pub struct Answer {
-    pub status: Status,
+pub struct Response {
+    pub status: StatusCode,
     pub body: String,
 }
 
-impl Answer {
-    /// Returns an answer that names the fault: `{"error": why}`.
+impl Response {
+    /// Returns a response that names the fault: `{"error": why}`.
     ///
     /// `AllocError`: a request for memory was refused.
-    pub fn error(alloc: Global, status: Status, why: &str) -> Result<Answer, AllocError>
-        ensures status { IfOk result (λ answer. answer.status ≡ status) }
-        ensures body { IfOk result (λ answer. string_bytes answer.body ≡ compact_text (error_data why.now)) }
+    pub fn error(alloc: Global, status: StatusCode, why: &str) -> Result<Response, AllocError>
+        ensures status { IfOk result (λ response. response.status ≡ status) }
+        ensures body { IfOk result (λ response. string_bytes response.body ≡ compact_text (error_data why.now)) }
     {
         let body = object_text(alloc, &[("error", Shown::Text(why))])?;
-        Ok(Answer { status, body })
+        Ok(Response { status, body })
     }
 
     /// Returns the octets that go to the client: the status line, the fields `Content-Type`, `Content-Length` (the octets
@@ -107,7 +107,7 @@ impl Answer {
     ///
     /// `AllocError`: a request for memory was refused.
     pub fn octets(&self, alloc: Global) -> Result<Vec<u8>, AllocError>
-        ensures { IfOk result (λ octets. octets.items ≡ answer_text self.now.status (string_bytes self.now.body)) }
+        ensures { IfOk result (λ octets. octets.items ≡ response_text self.now.status (string_bytes self.now.body)) }
     {
         let text = format!(in alloc;
             "HTTP/1.1 {} {}\r\nContent-Type: application/json\r\nContent-Length: {}\r\nConnection: close\r\n{}\r\n{}",
