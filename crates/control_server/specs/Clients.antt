@@ -1,6 +1,6 @@
 -- The changes of a client while it is served, and that no other client changes.
-use Rattle.std.specs.Prelude.{◌≡◌, ◌≤◌, ◌⊎◌, ℕ, List, Bool, true, false, Option, Some, None}
-use Rattle.std.specs.Prelude.{slice_get, slice_set, take, vec_len}
+use Rattle.std.specs.Prelude.{◌≡◌, ◌≤◌, ◌-◌, ◌⊎◌, ℕ, List, Bool, true, false, Option, Some, None}
+use Rattle.std.specs.Prelude.{nat_le, slice_get, slice_set, sum_by, take, vec_len}
 use Rattle.control_server.specs.declared.client.Client.{Client}
 use Rattle.control_server.specs.declared.client.ClientStage.{ClientStage}
 use Rattle.control_server.specs.declared.client.ClientStage.TheVariants.{Asking, Answered, Draining, Ended}
@@ -74,3 +74,18 @@ AtFound P place old new (Some client) = (after : Client) × P client after × (n
 
 abbrev pub At : (Client → Client → Type 0) → ℕ → List Client → List Client → Type 0
 At P place old new = AtFound P place old new (slice_get old place)
+
+-- It gives way to another: its request isn't complete, its answer is sent, or it took none of its answer for a second.
+abbrev pub gives_way_at : ClientStage → (is_stuck : Bool) → Bool
+gives_way_at Asking is_stuck = true
+gives_way_at Answered is_stuck = is_stuck
+gives_way_at Draining is_stuck = true
+gives_way_at Ended is_stuck = true
+
+abbrev pub gives_way : ℕ → Client → Bool
+gives_way now client = gives_way_at client.stage (nat_le 1000 (now - client.active))
+
+-- Only clients that give way were closed: whatever the others weigh, those that are left weigh no less.
+abbrev pub SparesOthers : ℕ → List Client → List Client → Type 0
+SparesOthers now old new = (weight : Client → ℕ) → ((client : Client) → gives_way now client ≡ true → weight client ≡ 0)
+    → sum_by weight old ≤ sum_by weight new

@@ -1,10 +1,11 @@
 //! The clients of a service: they connect to a listener, send a request, and are answered, one after another.
 ghost use Rattle.std.specs.Prelude.{◌≡◌, ◌+◌, ◌-◌, ◌^◌, ◌<◌, ◌≤◌, ◌↔◌, []};
-ghost use Rattle.std.specs.Prelude.{IfOk, IfSome, IsErr, IsFalse, IsTrue, filter, min, not, slice_get, sum_by, vec_len};
+ghost use Rattle.std.specs.Prelude.{IfOk, IfSome, IsErr, IsFalse, IsTrue, filter, min, not, slice_get, sum_by, true, vec_len};
 ghost use Rattle.std.specs.List.{list_any};
 ghost use Rattle.control_requests.specs.Requests.{Reads};
 ghost use Rattle.control_requests.specs.declared.request.Reading.TheVariants.{Whole, Part};
-ghost use Rattle.control_server.specs.Clients.{WasServed, At, has_ended, is_answered, kept_of};
+ghost use Rattle.control_server.specs.Clients.{WasServed, At, SparesOthers, has_ended, is_answered, kept_of};
+ghost use Rattle.control_server.specs.Clients as spec;
 ghost use Rattle.control_server.specs.declared.client.ClientStage.TheVariants.{Asking, Answered, Draining, Ended};
 
 use crate::client::{Client, ClientStage, refusal};
@@ -153,15 +154,21 @@ impl Clients {
             .poll(&mut self.events, Some(Duration::from_millis(ms)));
     }
 
-    /// Accepts the connections that wait at `now`, at most 32 of each listener.
-    pub fn admit(&mut self, now: u64) {
+    /// Accepts the connections that wait at `now`, at most 32 of each listener. Where 32 clients of a listener have places,
+    /// the one that has been idle for longest is closed for another: one whose request isn't complete or whose answer is
+    /// sent, or that took none of its answer for a second. If there is none, the new connection is closed.
+    pub fn admit(&mut self, now: u64)
+        ensures { SparesOthers now self.old.clients.items self.new.clients.items }
+    {
         let control = self.admit_all(Door::Control, now);
         let metrics = self.admit_all(Door::Metrics, now);
         self.may_have_more = control || metrics;
     }
 
     // Accepts the connections that wait. Returns whether more may wait.
-    fn admit_all(&mut self, door: Door, now: u64) -> bool {
+    fn admit_all(&mut self, door: Door, now: u64) -> bool
+        ensures { SparesOthers now self.old.clients.items self.new.clients.items }
+    {
         for _ in 0..CLIENTS {
             if !self.admit_one(door, now) {
                 return false;
@@ -171,7 +178,9 @@ impl Clients {
     }
 
     // Accepts a connection that waits. Returns false if none does.
-    fn admit_one(&mut self, door: Door, now: u64) -> bool {
+    fn admit_one(&mut self, door: Door, now: u64) -> bool
+        ensures { SparesOthers now self.old.clients.items self.new.clients.items }
+    {
         match self.doors.accept(door) {
             Ok(stream) => {
                 self.seat(door, stream, now);
@@ -194,7 +203,10 @@ impl Clients {
 
     // Returns the place of the client of this listener that has been idle for longest, among those that give way to
     // another.
-    fn idlest(&self, door: Door, now: u64) -> Option<usize> {
+    fn idlest(&self, door: Door, now: u64) -> Option<usize>
+        ensures { IfSome result (λ place. IfSome (slice_get self.now.clients.items place) (λ client.
+            spec.gives_way now client ≡ true)) }
+    {
         let mut found: Option<(usize, u64)> = None;
         for (place, client) in self.clients.iter().enumerate() {
             let is_later = match found {
@@ -212,7 +224,9 @@ impl Clients {
     }
 
     // Frees a place for a client of this listener if all are taken and one gives way. Returns whether a place is free.
-    fn make_place(&mut self, door: Door, now: u64) -> bool {
+    fn make_place(&mut self, door: Door, now: u64) -> bool
+        ensures { SparesOthers now self.old.clients.items self.new.clients.items }
+    {
         if self.count_of(door) < CLIENTS {
             return true;
         }
@@ -226,7 +240,9 @@ impl Clients {
     }
 
     // Gives a connection a place, or closes it if none is free.
-    fn seat(&mut self, door: Door, stream: Stream, now: u64) {
+    fn seat(&mut self, door: Door, stream: Stream, now: u64)
+        ensures { SparesOthers now self.old.clients.items self.new.clients.items }
+    {
         let mut stream = stream;
         if self.make_place(door, now) && stream.register(self.poll.registry()).is_ok() {
             let client = Client::new(self.alloc, stream, door, now);
@@ -339,7 +355,9 @@ impl Clients {
 
 // Returns whether a client gives way to another: its request isn't complete, its answer is sent, or it takes none of the
 // answer.
-fn gives_way(client: &Client, now: u64) -> bool {
+fn gives_way(client: &Client, now: u64) -> bool
+    ensures { result ≡ spec.gives_way now client.now }
+{
     match client.stage {
         ClientStage::Answered => now.saturating_sub(client.active) >= STUCK_MS,
         ClientStage::Asking | ClientStage::Draining | ClientStage::Ended => true,
