@@ -1,5 +1,5 @@
 //! The outlet by which a thread hands rows to another one without waiting for it.
-ghost use Rattle.std.specs.Prelude.{◌≡◌, [], ◌∷◌, ◌++◌, if◌then◌else◌, length};
+ghost use Rattle.std.specs.Prelude.{◌≡◌, ◌≤◌, [], ◌∷◌, ◌++◌, if◌then◌else◌, length, IsFalse};
 ghost use Rattle.call_files.specs.Outlets.{all_of};
 ghost use Rattle.rtrb.specs.Ring.{sent};
 
@@ -9,7 +9,7 @@ use std::marker::Model;
 use std::mem;
 
 /// A ring to another thread, and the rows for which it had no room, in their order. These go into the ring before any later
-/// row. Contracts see the rows that went into the ring, and those that are kept.
+/// row. Contracts see the rows that went into the ring, those that are kept, and how many may be.
 #[derive(Drop)]
 pub struct Outlet<T: Drop> {
     ring: Producer<T>,
@@ -24,13 +24,13 @@ impl<T: Drop> Model for Outlet<T> {
 
     ghost coded = { handed_code T.code };
 
-    ghost view = { λ outlet. record { gone = sent outlet.ring; kept = outlet.kept.waiting } };
+    ghost view = { λ outlet. record { gone = sent outlet.ring; kept = outlet.kept.waiting; room = outlet.kept.capacity } };
 }
 
 impl<T: Drop> Outlet<T> {
     /// Returns an outlet with a ring, and room for rows that are kept. Rows already in `kept` count as kept.
     pub fn new(ring: Producer<T>, kept: Backlog<T>) -> Outlet<T>
-        ensures { result ≡ record { gone = sent ring; kept = kept.waiting } }
+        ensures { result ≡ record { gone = sent ring; kept = kept.waiting; room = kept.capacity } }
     {
         Outlet { ring, kept }
     }
@@ -38,7 +38,8 @@ impl<T: Drop> Outlet<T> {
     // Moves the oldest kept row into the ring. Returns false if none is kept or the ring has no room.
     #[tactic(auto, using(crate::proofs::RowLaws::front_goes_on, crate::proofs::RowLaws::nobody_goes_on))]
     fn pass_one(&mut self) -> bool
-        ensures { all_of self.new ≡ all_of self.old }
+        ensures rows { all_of self.new ≡ all_of self.old }
+        ensures room { self.new.room ≡ self.old.room }
     {
         if self.ring.is_full() {
             return false;
@@ -54,7 +55,8 @@ impl<T: Drop> Outlet<T> {
 
     // Moves the kept rows into the ring, as far as it has room.
     fn pass_on(&mut self)
-        ensures { all_of self.new ≡ all_of self.old }
+        ensures rows { all_of self.new ≡ all_of self.old }
+        ensures room { self.new.room ≡ self.old.room }
     {
         for _ in 0..self.kept.len() {
             if !self.pass_one() {
@@ -63,9 +65,12 @@ impl<T: Drop> Outlet<T> {
         }
     }
 
-    /// Hands a row over, or keeps it. Returns false if there was no room for it either, and it is lost.
+    /// Hands a row over, or keeps it. Returns false if the ring had no room and as many rows are kept as may be; then it is
+    /// lost.
     pub fn hand_over(&mut self, row: T) -> bool
-        ensures { all_of self.new ≡ (if result then all_of self.old ++ row ∷ [] else all_of self.old) }
+        ensures rows { all_of self.new ≡ (if result then all_of self.old ++ row ∷ [] else all_of self.old) }
+        ensures full { IsFalse result → self.old.room ≤ length self.new.kept }
+        ensures room { self.new.room ≡ self.old.room }
     {
         self.pass_on();
         if !self.kept.is_empty() {
@@ -88,7 +93,7 @@ impl<T: Drop> Outlet<T> {
     pub fn take_kept(&mut self, spare: Backlog<T>) -> Backlog<T>
         requires { spare.waiting ≡ [] }
         ensures rows { result.waiting ≡ self.old.kept }
-        ensures after { self.new ≡ record self.old { kept = [] } }
+        ensures after { self.new ≡ record self.old { kept = []; room = spare.capacity } }
     {
         mem::replace(&mut self.kept, spare)
     }
