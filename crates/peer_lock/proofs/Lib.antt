@@ -34,4 +34,5 @@ pub mod SidesTicks
 pub mod Ticking
 pub mod Trunks
 pub mod UnknownCalls
+pub mod Views
 pub mod Sending

@@ -8,6 +8,7 @@ use Rattle.peer_lock.specs.Trunks.{has_any, goes_ahead}
 use Rattle.peer_lock.proofs.SeenChanges.{own_number}
 use Rattle.peer_lock.proofs.Trunks.{is_sent, sent_peer}
 use Rattle.peer_lock.proofs.Kept.{legs_kept, kept_after}
+use Rattle.peer_lock.proofs.Views.{view_of}
 use Rattle.peer_lock.proofs.state.PeerState.hear.Goals as goal
 
 pub invariant_of-self : goal.invariant_of-self
@@ -24,16 +25,7 @@ returns-clause-peer g c named here =
     let number = c.call_number-own.ensures.number ∙ sym (own_number c.self.inside.legs c.args.number named
     c.count-sound.ensures.sound inside) in
     let step = full_step named.leg c.args.frame.now c.args.now in
-    let view : PeerView = record {
-      rules = c.self.inside.rules;
-      legs = c.self.inside.legs;
-      outbox = c.self.inside.outbox;
-      queue = c.self.inside.queue;
-      since = c.self.inside.since;
-      drains = c.self.inside.drains;
-      pokes = c.self.inside.pokes;
-      accounts = c.self.inside.account;
-    } in
+    let view = view_of c.self.view_is in
     let goes : c.is_ahead-goes.result ≡ (has_any c.full.new.replies && goes_ahead view.rules view.queue
     c.call_number-own.result) = search rules in
     let sent : c.put_all.new.outbox ≡ put c.flush_if.new.outbox c.full.new.replies = search rules in

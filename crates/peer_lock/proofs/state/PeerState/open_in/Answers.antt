@@ -5,6 +5,7 @@ use Rattle.outbox.specs.Outbox.{put}
 use Rattle.peer_legs.specs.Legs.{leg_of_remote}
 use Rattle.peer_lock.specs.Peer.{PeerView, handed_up, leg_alone, offer_with}
 use Rattle.peer_lock.proofs.Opened.{new_source, opened_in, taken_in}
+use Rattle.peer_lock.proofs.Views.{view_of}
 use Rattle.peer_lock.proofs.state.PeerState.open_in.Goals as goal
 
 pub opened-requires-clause-remote : goal.opened-requires-clause-remote
@@ -18,16 +19,7 @@ opened-requires-clause-remote g c κs within = λ remote is.
 
 pub returns-in-Ok : goal.returns-in-Ok
 returns-in-Ok g c =
-    let view : PeerView = record {
-      rules = c.self.inside.rules;
-      legs = c.self.inside.legs;
-      outbox = c.self.inside.outbox;
-      queue = c.self.inside.queue;
-      since = c.self.inside.since;
-      drains = c.self.inside.drains;
-      pokes = c.self.inside.pokes;
-      accounts = c.self.inside.account;
-    } in
+    let view = view_of c.self.view_is in
     let step_is = taken_in view c.args.self.now c.args.lease c.name-name.result c.free_number-number.result c.args.frame.now
     c.args.now c.args.challenge.now c.self.view_is c.free_number-number.ensures.number c.name-name.ensures in
     let heard_is = c.in-Ok.ensures.heard ∙ ap heard_of step_is in

@@ -1,6 +1,7 @@
 use Rattle.std.proofs.Common.{◌≡◌, ◌+◌, ◌∙◌, ap, subst}
 use Rattle.peer_accounts.specs.Accounts.{Accounts, carried}
 use Rattle.peer_lock.specs.Peer.{PeerView}
+use Rattle.peer_lock.proofs.Views.{view_of}
 use Rattle.peer_lock.proofs.state.PeerState.part.Goals as goal
 
 pub invariant_of-closed : goal.invariant_of-closed
@@ -13,16 +14,7 @@ invariant_of-closed g c = record {
 
 pub returns-clause-same : goal.returns-clause-same
 returns-clause-same g c =
-    ap (λ (a : Accounts). record {
-      rules = c.self.inside.rules;
-      legs = c.self.inside.legs;
-      outbox = c.self.inside.outbox;
-      queue = c.self.inside.queue;
-      since = c.self.inside.since;
-      drains = c.self.inside.drains;
-      pokes = c.self.inside.pokes;
-      accounts = a;
-    }) c.part-account.ensures.same
+    ap (λ (a : Accounts). record (view_of c.self.view_is) { accounts = a }) c.part-account.ensures.same
     ∙ c.self.view_is
 
 pub returns-clause-octets : goal.returns-clause-octets

@@ -3,20 +3,12 @@ use Rattle.outbox.specs.Outbox.{put}
 use Rattle.peer_lock.specs.Peer.{PeerView}
 use Rattle.peer_lock.specs.Pokes.{is_poke_due, poke_octets, poked, pokes_after, pokes_sent}
 use Rattle.peer_lock.specs.Ticks.{asked}
+use Rattle.peer_lock.proofs.Views.{view_of}
 use Rattle.peer_lock.proofs.state.PeerState.poke_if_due.Goals as goal
 
 pub returns : goal.returns
 returns g c =
-    let view : PeerView = record {
-      rules = c.self.inside.rules;
-      legs = c.self.inside.legs;
-      outbox = c.self.inside.outbox;
-      queue = c.self.inside.queue;
-      since = c.self.inside.since;
-      drains = c.self.inside.drains;
-      pokes = c.self.inside.pokes;
-      accounts = c.self.inside.account;
-    } in
+    let view = view_of c.self.view_is in
     let now : ℕ = c.args.now in
     let due : is_poke_due view.rules view.pokes now ≡ true = search rules in
     let written : c.in-Ok.out ≡ poke_octets now = search rules in

@@ -5,20 +5,12 @@ use Rattle.peer_lock.specs.Peer.{PeerView}
 use Rattle.peer_lock.specs.Trunks.{waits}
 use Rattle.trunk_packer.specs.Queue.{QueueEntry, trunk_octets}
 use Rattle.peer_lock.proofs.Kept.{kept_queued}
+use Rattle.peer_lock.proofs.Views.{view_of}
 use Rattle.peer_lock.proofs.state.PeerState.queue_media.Goals as goal
 
 pub invariant_of-self : goal.invariant_of-self
 invariant_of-self g c =
-    let view : PeerView = record {
-      rules = c.self.inside.rules;
-      legs = c.self.inside.legs;
-      outbox = c.self.inside.outbox;
-      queue = c.self.inside.queue;
-      since = c.self.inside.since;
-      drains = c.self.inside.drains;
-      pokes = c.self.inside.pokes;
-      accounts = c.self.inside.account;
-    } in
+    let view = view_of c.self.view_is in
     let entry : QueueEntry = record { number = c.args.number; timestamp = c.args.timestamp; media = c.args.media.now } in
     kept_queued view c.queue.new.self c.oldest-since.result c.carry.new.self entry c.self.invariant c.in-Ok.ensures.queued
     c.in-Ok.ensures.counted
