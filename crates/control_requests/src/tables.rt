@@ -1,4 +1,7 @@
 //! Answers as tables for people.
+ghost use Rattle.std.specs.Prelude.{◌≡◌};
+ghost use Rattle.control_requests.specs.declared.tables.TableFault.TheVariants as faults;
+
 use plain_text::printable;
 use serde_json::Value;
 use std::alloc::{AllocError, Global};
@@ -16,6 +19,8 @@ pub enum TableFault {
 }
 
 impl From<AllocError> for TableFault {
+    ghost from_gives = { λ _ e. e ≡ faults.Memory };
+
     fn from(_refused: AllocError) -> TableFault {
         TableFault::Memory
     }

@@ -1,5 +1,6 @@
 //! Replays a script, line by line, through an exchange.
 ghost use Rattle.std.specs.Prelude.{◌≡◌, ◌+◌, ◌<◌, ◌^◌, length, IfSome};
+ghost use Rattle.exchange_commands.specs.declared.replaying.ReplayError.TheVariants as errors;
 
 use crate::desk::Desk;
 use crate::free_order::count_numbers;
@@ -42,6 +43,8 @@ pub enum ReplayError {
 }
 
 impl From<AllocError> for ReplayError {
+    ghost from_gives = { λ _ e. e ≡ errors.Memory };
+
     fn from(_error: AllocError) -> ReplayError {
         ReplayError::Memory
     }

@@ -1,5 +1,6 @@
 //! Observer of a script replay.
 ghost use Rattle.std.specs.Prelude.{◌≡◌, ◌<◌, length, Some, option_and_then, option_map, slice_get};
+ghost use Rattle.exchange_commands.specs.declared.viewer.Stop.TheVariants as stops;
 
 use crate::ScriptLine;
 use exchange_core::{Refusal, Retired};
@@ -21,12 +22,16 @@ pub enum Stop {
 }
 
 impl From<io::Error> for Stop {
+    ghost from_gives = { λ _ stop. stop ≡ stops.Writer };
+
     fn from(_error: io::Error) -> Stop {
         Stop::Writer
     }
 }
 
 impl From<AllocError> for Stop {
+    ghost from_gives = { λ _ stop. stop ≡ stops.Memory };
+
     fn from(_error: AllocError) -> Stop {
         Stop::Memory
     }

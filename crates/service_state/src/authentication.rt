@@ -1,7 +1,7 @@
 //! Failed authentication, as the row of an ended leg shows it.
 ghost use Rattle.std.specs.Prelude.{◌≡◌, ◌≢◌, ◌↔◌, Some};
 ghost use Rattle.call_signals.specs.declared.failure.Failure.TheVariants as failures;
-ghost use Rattle.service_state.specs.Authentication.{WasAnsweredWrongly};
+ghost use Rattle.service_state.specs.Authentication.{WasAnsweredWrongly, auth_failure_text};
 ghost use Rattle.service_state.specs.declared.authentication.AuthFailure.TheVariants.{NoAnswer, WrongAnswer};
 
 use call_records::{CallRow, Ending};
@@ -21,7 +21,9 @@ pub const AUTH_FAILURES: [AuthFailure; 2] = [AuthFailure::WrongAnswer, AuthFailu
 
 impl AuthFailure {
     /// Returns its name in metrics.
-    pub fn name(self) -> &'static str {
+    pub fn name(self) -> &'static str
+        ensures { result.now ≡ auth_failure_text self }
+    {
         match self {
             AuthFailure::WrongAnswer => "WrongAnswer",
             AuthFailure::NoAnswer => "NoAnswer",

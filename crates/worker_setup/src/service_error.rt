@@ -1,4 +1,8 @@
 //! The reasons why a service ends early.
+ghost use Rattle.std.specs.Prelude.{◌≡◌, option_map};
+ghost use Rattle.worker_setup.specs.ServiceErrors.{error_text, from_bind};
+ghost use Rattle.worker_setup.specs.declared.service_error.ServiceError.TheVariants as errors;
+
 use std::alloc::AllocError;
 use std::io;
 use udp_wires::BindError;
@@ -26,6 +30,8 @@ pub enum ServiceError {
 }
 
 impl From<BindError> for ServiceError {
+    ghost from_gives = { λ of e. e ≡ from_bind of };
+
     fn from(error: BindError) -> ServiceError {
         match error {
             BindError::Bind => ServiceError::Bind,
@@ -35,18 +41,24 @@ impl From<BindError> for ServiceError {
 }
 
 impl From<AllocError> for ServiceError {
+    ghost from_gives = { λ _ e. e ≡ errors.Memory };
+
     fn from(_error: AllocError) -> ServiceError {
         ServiceError::Memory
     }
 }
 
 impl From<NoThread> for ServiceError {
+    ghost from_gives = { λ _ e. e ≡ errors.NoThread };
+
     fn from(_error: NoThread) -> ServiceError {
         ServiceError::NoThread
     }
 }
 
 impl From<io::Error> for ServiceError {
+    ghost from_gives = { λ _ e. e ≡ errors.Writer };
+
     fn from(_error: io::Error) -> ServiceError {
         ServiceError::Writer
     }
@@ -54,7 +66,9 @@ impl From<io::Error> for ServiceError {
 
 /// Returns the word printed after `refused`: the name of the variant. `Writer` has none, because then nothing can be
 /// printed.
-pub fn service_error_name(error: ServiceError) -> Option<&'static str> {
+pub fn service_error_name(error: ServiceError) -> Option<&'static str>
+    ensures { option_map (λ name. name.now) result ≡ error_text error }
+{
     match error {
         ServiceError::Bind => Some("Bind"),
         ServiceError::Memory => Some("Memory"),
