@@ -1,5 +1,5 @@
 //! The reason why the first step of a call was refused.
-ghost use Rattle.std.specs.Prelude.{◌≡◌, ◌⊎◌, Some, option_map};
+ghost use Rattle.std.specs.Prelude.{◌≡◌, ◌⊎◌, IfNone, IfSome, Some, option_map};
 ghost use Rattle.call_control.specs.Beginnings.{OfDatagram, OfTick, OfCall, OfHangUp};
 ghost use Rattle.exchange_core.specs.Denial.{Denies, denial_of};
 ghost use Rattle.exchange_core.specs.Refusals.{from_call};
@@ -39,40 +39,40 @@ impl Denial {
         }
     }
 
-    // Returns the refusal of a datagram or a tick.
-    pub(crate) fn of_peer(self) -> Refusal
-        requires { Denies (Some OfDatagram) self ⊎ Denies (Some OfTick) self }
-        ensures { self ≡ Denial.Call result }
+    // Returns the refusal of a datagram or a tick, or `None` if neither is refused for that reason.
+    pub(crate) fn of_peer(self) -> Option<Refusal>
+        ensures some { IfSome result (λ refusal. self ≡ Denial.Call refusal) }
+        ensures none { IfNone result (Denies (Some OfDatagram) self ⊎ Denies (Some OfTick) self → ⊥) }
     {
         match self {
-            Denial::Call(refusal) => refusal,
-            Denial::Order(_) => unreachable!(),
+            Denial::Call(refusal) => Some(refusal),
+            Denial::Order(_) => None,
         }
     }
 
-    // Returns the reason why no call was placed.
-    pub(crate) fn of_call(self) -> CallError
-        requires { Denies (Some OfCall) self }
-        ensures { option_map Denial.Call (from_call result) ≡ Some self }
+    // Returns the reason why no call was placed, or `None` if no call is refused for it.
+    pub(crate) fn of_call(self) -> Option<CallError>
+        ensures some { IfSome result (λ error. option_map Denial.Call (from_call error) ≡ Some self) }
+        ensures none { IfNone result (Denies (Some OfCall) self → ⊥) }
     {
         match self {
-            Denial::Call(Refusal::SerialsSpent) => CallError::SerialsSpent,
-            Denial::Call(Refusal::NoNumber) => CallError::NoNumber,
-            Denial::Call(Refusal::StepsSpent) => CallError::StepsSpent,
-            Denial::Call(Refusal::NumberBusy) => CallError::NumberBusy,
-            Denial::Call(Refusal::Memory) => CallError::Memory,
-            _ => unreachable!(),
+            Denial::Call(Refusal::SerialsSpent) => Some(CallError::SerialsSpent),
+            Denial::Call(Refusal::NoNumber) => Some(CallError::NoNumber),
+            Denial::Call(Refusal::StepsSpent) => Some(CallError::StepsSpent),
+            Denial::Call(Refusal::NumberBusy) => Some(CallError::NumberBusy),
+            Denial::Call(Refusal::Memory) => Some(CallError::Memory),
+            _ => None,
         }
     }
 
-    // Returns the refusal of a hang-up.
-    pub(crate) fn of_hang_up(self) -> OrderError
-        requires { Denies (Some OfHangUp) self }
-        ensures { self ≡ Denial.Order result }
+    // Returns the refusal of a hang-up, or `None` if no hang-up is refused for that reason.
+    pub(crate) fn of_hang_up(self) -> Option<OrderError>
+        ensures some { IfSome result (λ error. self ≡ Denial.Order error) }
+        ensures none { IfNone result (Denies (Some OfHangUp) self → ⊥) }
     {
         match self {
-            Denial::Order(error) => error,
-            Denial::Call(_) => unreachable!(),
+            Denial::Order(error) => Some(error),
+            Denial::Call(_) => None,
         }
     }
 }

@@ -47,7 +47,7 @@ fn refused_by(denial: Option<Denial>) -> Option<Refusal>
     ensures reason { option_map Denial.Call result ≡ denial }
 {
     match denial {
-        Some(denial) => Some(denial.of_peer()),
+        Some(denial) => denial.of_peer(),
         None => None,
     }
 }
@@ -60,7 +60,10 @@ fn went_out(denial: Option<Denial>) -> Result<(), CallError>
     ensures reason { IfErr result (λ error. denial ≡ option_map Denial.Call (from_call error)) }
 {
     match denial {
-        Some(denial) => Err(denial.of_call()),
+        Some(denial) => match denial.of_call() {
+            Some(error) => Err(error),
+            None => Ok(()),
+        },
         None => Ok(()),
     }
 }
@@ -73,7 +76,10 @@ fn hung_up(denial: Option<Denial>) -> Result<(), OrderError>
     ensures reason { IfErr result (λ error. denial ≡ Some (Denial.Order error)) }
 {
     match denial {
-        Some(denial) => Err(denial.of_hang_up()),
+        Some(denial) => match denial.of_hang_up() {
+            Some(error) => Err(error),
+            None => Ok(()),
+        },
         None => Ok(()),
     }
 }
