@@ -3,6 +3,7 @@ use Rattle.std.proofs.Common.{◌≡◌, ◌⊎◌, ℕ, Bool, true, false, List
 use Rattle.std.proofs.Common.{arith, if◌then◌else◌}
 use Rattle.std.specs.Prelude.{◌==◌, ◌&&◌, IfErr}
 use Rattle.std.proofs.lemmas.Bool.Decides.{nat_tests}
+use Rattle.call_control.specs.declared.reply.Reply.TheVariants as replies
 use Rattle.iax_frames.specs.FullFrame.{FullFrame}
 use Rattle.iax_frames.specs.declared.datagram.Datagram.{Datagram}
 use Rattle.iax_frames.specs.declared.full_frame.FullHead.{FullHead}
@@ -23,6 +24,7 @@ use Rattle.peer_lock.specs.Unworked.{IsUnworked, IsWorked}
 use Rattle.peer_lock.specs.declared.errors.PeerError.{PeerError}
 use Rattle.peer_lock.specs.declared.errors.PeerError.TheVariants as errors
 use Rattle.peer_lock.specs.declared.steps.Step.{Step}
+use Rattle.exchange_core.specs.FirstSteps.{IsOpeningDue}
 use Rattle.exchange_core.specs.Newcomers.{SpellsOpening}
 
 record IsNewcomer (frame : FullFrame) : Type 0 where
@@ -118,3 +120,8 @@ module _ (credit made : ℕ) (octets : List ℕ) (peer : PeerView) (now : ℕ) w
   needs_opening (Err e) there =
       λ same. of_refusal (subst (λ (x : PeerError). IsUnworked credit made octets x ⊎
       ((d : Datagram) × IsWorked credit made octets d × IsDue (datagram_refused peer d now) x)) same there)
+
+-- an answer for which an opening is due comes of a datagram that needs a number
+pub due_opening : (octets : List ℕ) (e : PeerError) → (e ≡ errors.NeedsNumber → SpellsOpening octets)
+    → IsOpeningDue (replies.Datagram (Err e)) → SpellsOpening octets
+due_opening octets e spells due = grind (arith, spells, due)

@@ -1,10 +1,14 @@
 -- The effect of a peer's call with a step, and of one that is refused.
-use Rattle.std.specs.Prelude.{◌≡◌, ◌+◌, [], Option, None, Some}
+use Rattle.std.specs.Prelude.{◌≡◌, ℕ, ◌+◌, ◌⊎◌, List, [], Option, None, Some, Result, Err, IfErr, IfOk, OnErr, OnOk}
+use Rattle.iax_frames.specs.declared.datagram.Datagram.{Datagram}
+use Rattle.memory_requests.specs.Refused.{WasRefused}
 use Rattle.peer_accounts.specs.Accounts.{Credit, with_accepted, with_step}
 use Rattle.peer_accounts.specs.HandedUp.{HandedUp}
 pub use Rattle.peer_accounts.specs.HandedUp.{IsNothing}
-use Rattle.peer_lock.specs.Arrivals.{MediaTaken}
+use Rattle.peer_lock.specs.Arrivals.{MediaTaken, datagram_refused, datagram_step}
+use Rattle.peer_lock.specs.Asking.{MayAsk}
 use Rattle.peer_lock.specs.Peer.{PeerView, PeerStep}
+use Rattle.peer_lock.specs.Unworked.{IsUnworked, IsWorked}
 use Rattle.peer_lock.specs.declared.errors.PeerError.{PeerError}
 use Rattle.peer_lock.specs.declared.errors.PeerError.TheVariants.{Memory}
 use Rattle.peer_lock.specs.declared.steps.Step.{Step}
@@ -43,3 +47,21 @@ pub record IsUnchanged (old new : PeerView) (pass_old pass_new : Credit) (onward
 abbrev pub IsDue : Option PeerError → PeerError → Type 0
 IsDue (Some due) e = e ≡ due
 IsDue None e = e ≡ Memory
+
+-- The call `datagram` or `datagram_read` had this result. `first_octets` and `first_steps` are the credits with which every
+-- peer begins, the other credits are those of the pass, and `room` is that of the caller's list.
+pub record WasHandled (first_octets first_steps : ℕ) (octets : List ℕ) (now : ℕ) (result : Result Step PeerError)
+    (old new : PeerView) (credit_old credit_new : Credit) (room : ℕ) (onwards : HandedUp) : Type 0 where
+  -- the result of a datagram that is handled
+  pub made : IfOk result (λ step. (d : Datagram) → IsWorked first_steps old.accounts.steps octets d
+      → Makes (datagram_step first_octets old d now) new step credit_old credit_new onwards)
+  pub worked : OnOk result ((d : Datagram) × IsWorked first_steps old.accounts.steps octets d)
+  pub unrefused : OnOk result ((d : Datagram) → IsWorked first_steps old.accounts.steps octets d
+      → datagram_refused old d now ≡ None)
+  -- each refusal is returned if its cause holds
+  pub unworked : (e : PeerError) → IsUnworked first_steps old.accounts.steps octets e → result ≡ Err e
+  pub refused : IfErr result (λ e. IsUnworked first_steps old.accounts.steps octets e
+      ⊎ ((d : Datagram) × IsWorked first_steps old.accounts.steps octets d × IsDue (datagram_refused old d now) e))
+  pub err : OnErr result (IsUnchanged old new credit_old credit_new onwards)
+  pub no_memory : result ≡ Err Memory → WasRefused
+  pub memory : result ≡ Err Memory → (d : Datagram) → IsWorked first_steps old.accounts.steps octets d → MayAsk old room d

@@ -1,24 +1,27 @@
 -- The steps of a peer by which a leg obeys an order ("Call Setup", "Control Frames", "Mini Frames", "Meta Frames").
-use Rattle.std.specs.Prelude.{◌≡◌, ℕ, ◌==◌, List, [], ◌∷◌, ◌++◌, Option, None, Some, length, map}
-use Rattle.std.specs.Prelude.{if◌then◌else◌}
+use Rattle.std.specs.Prelude.{◌≡◌, ℕ, ◌+◌, ◌==◌, List, [], ◌∷◌, ◌++◌, Option, None, Some, Result, Err, length, map, true}
+use Rattle.std.specs.Prelude.{if◌then◌else◌, IfErr, IfOk, OnErr, OnOk}
 use Rattle.call_book.specs.declared.leg_name.LegName.{LegName}
 use Rattle.iax_frames.specs.FullFrame.{spelling}
 use Rattle.iax_frames.specs.MiniFrame.{mini_spelling}
 use Rattle.leg_machine.specs.Media.{media_sent, after_media, media_frames}
-use Rattle.leg_machine.specs.OrderTable.{Carried as OrderCarried, order_refused, order_carried}
+use Rattle.leg_machine.specs.OrderTable.{Carried as OrderCarried, order_refused, order_carried, wants_memory}
 use Rattle.leg_machine.specs.declared.media.MediaSent.{MediaSent}
 use Rattle.leg_machine.specs.declared.media.MediaSent.TheVariants as sent
 use Rattle.call_signals.specs.declared.order.Order.{Order}
 use Rattle.call_signals.specs.declared.order.Order.TheVariants as orders
 use Rattle.call_signals.specs.declared.order.OrderError.{OrderError as LegError}
-use Rattle.peer_accounts.specs.Accounts.{stepped, carry_to}
+use Rattle.call_signals.specs.declared.outcomes.Judged.TheVariants.{Unnumbered}
+use Rattle.memory_requests.specs.Refused.{WasRefused}
+use Rattle.peer_accounts.specs.Accounts.{Credit, stepped, carry_to}
 use Rattle.peer_lock.specs.Errors.{from_leg}
 use Rattle.peer_legs.specs.Legs.{NamedLeg, leg_named, with_leg}
-use Rattle.peer_lock.specs.Peer.{PeerView, counted, flushed_if, with_datagram, with_sent}
+use Rattle.peer_lock.specs.Peer.{PeerView, counted, flushed_if, leg_alone, with_datagram, with_sent}
 use Rattle.peer_accounts.specs.declared.account.Carried.{Carried}
 use Rattle.peer_accounts.specs.declared.account.Carried.TheVariants.{Packed, Queued, Dropped, Quelched}
 use Rattle.peer_lock.specs.declared.errors.OrderError.{OrderError}
 use Rattle.peer_lock.specs.declared.errors.OrderError.TheVariants as errors
+use Rattle.peer_lock.specs.declared.steps.Step.{Step}
 use Rattle.peer_lock.specs.Trunks.{has_any, is_full_for, begins_next}
 use Rattle.trunk_packer.specs.Queue.{QueueEntry}
 
@@ -122,3 +125,18 @@ ordered_if peer (Some named) order now = ordered_at peer named order now
 
 abbrev pub ordered_step : PeerView → LegName → Order → ℕ → PeerView
 ordered_step peer name order now = ordered_if peer (leg_named peer.legs name) order now
+
+-- The call `order` had this result. `first_steps` is the step credit with which every peer begins, and the credits are those
+-- of the pass.
+pub record WasOrdered (first_steps : ℕ) (name : LegName) (order : Order) (now : ℕ) (result : Result Step OrderError)
+    (old new : PeerView) (credit_old credit_new : Credit) : Type 0 where
+  pub peer : OnOk result (new ≡ ordered_step old name order now)
+  pub step : IfOk result (λ step. step ≡ leg_alone name Unnumbered)
+  pub octets : OnOk result (credit_new.octets + order_octets order ≡ credit_old.octets)
+  pub steps : OnOk result (credit_new.steps ≡ credit_old.steps + 1)
+  pub unrefused : OnOk result (order_refused_by old first_steps name order now ≡ None)
+  pub refused : IfErr result (IsOrderRefusal (order_refused_by old first_steps name order now))
+  pub memory : result ≡ Err errors.Memory → (named : NamedLeg) → leg_named old.legs name ≡ Some named
+      → wants_memory named.leg order now ≡ true
+  pub err : OnErr result ((new ≡ old) × (credit_new ≡ credit_old))
+  pub no_memory : result ≡ Err errors.Memory → WasRefused

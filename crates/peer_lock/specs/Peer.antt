@@ -1,5 +1,7 @@
 -- A peer, and the parts that its steps share.
-use Rattle.std.specs.Prelude.{ℕ, ◌+◌, ◌&&◌, Bool, List, [], ◌∷◌, length, Option, None, Some, if◌then◌else◌}
+use Rattle.std.specs.Prelude.{◌≡◌, ℕ, ◌+◌, ◌&&◌, Bool, List, [], ◌∷◌, length, Option, None, Some, if◌then◌else◌}
+use Rattle.std.specs.Prelude.{IfNone, IfSome}
+use Rattle.std.specs.Bool.{OnFalse, OnTrue}
 use Rattle.call_book.specs.declared.leg_name.LegName.{LegName}
 use Rattle.leg_machine.specs.Leg.{LegState}
 use Rattle.leg_machine.specs.Openings.{called_of, caller_of, formats_of}
@@ -11,7 +13,7 @@ use Rattle.call_signals.specs.declared.signal.Signal.TheVariants.{Offered}
 use Rattle.peer_accounts.specs.Accounts.{Accounts, stepped, with_accepted}
 pub use Rattle.peer_accounts.specs.Grants.{Granted, granted_media, granted}
 use Rattle.peer_legs.specs.Legs.{PeerLegs, with_leg, with_place}
-use Rattle.outbox.specs.Outbox.{OutboxView, put}
+use Rattle.outbox.specs.Outbox.{OutboxView, put, with_waiting}
 use Rattle.peer_accounts.specs.declared.onwards.Offer.{Offer}
 use Rattle.peer_lock.specs.declared.pokes.Pokes.{Pokes}
 use Rattle.peer_lock.specs.declared.steps.Step.{Step}
@@ -111,3 +113,21 @@ with_datagram peer datagram = record peer { outbox = put peer.outbox (datagram �
 -- a step that leaves this peer, and hands nothing up
 abbrev pub alone : PeerView → PeerStep
 alone peer = record { peer = counted peer; step = no_leg; signals = []; offer = None; octets = 0 }
+
+-- ---- the outbox is emptied
+
+-- the oldest datagram that waited in the outbox was taken out, and nothing else changed
+pub record TakesOut (out : List ℕ) (old new : PeerView) : Type 0 where
+  pub oldest : old.outbox.waiting ≡ out ∷ new.outbox.waiting
+  pub becomes : new ≡ record old { outbox = with_waiting old.outbox new.outbox.waiting }
+
+-- The call `take_out` had this result.
+pub record WasTakenOut (result : Option (List ℕ)) (old new : PeerView) : Type 0 where
+  pub oldest : IfSome result (λ out. TakesOut out old new)
+  pub empty : IfNone result ((old.outbox.waiting ≡ []) × (new ≡ old))
+
+-- The call `take_into` had this result.
+pub record WasTakenInto (result : Bool) (out_old out_new : List ℕ) (old new : PeerView) : Type 0 where
+  pub oldest : OnTrue result (TakesOut out_new old new)
+  pub empty : OnFalse result ((old.outbox.waiting ≡ []) × (new ≡ old))
+  pub same : OnFalse result (out_new ≡ out_old)

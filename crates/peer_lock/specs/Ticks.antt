@@ -1,14 +1,16 @@
 -- The steps of a peer that are ticks ("Message Transport", "Meta Frames").
 use Rattle.std.specs.Prelude.{◌≡◌, ℕ, ◌+◌, ◌<◌, ◌≤◌, ◌==◌, ◌⊎◌, ◌&&◌, nat_lt, Bool, true, false, All, List, [], ◌∷◌, ◌++◌, Option}
-use Rattle.std.specs.Prelude.{None, Some, length, map}
+use Rattle.std.specs.Prelude.{None, Some, Result, IsErr, IsTrue, IfOk, OnErr, OnOk, ◌↔◌, length, map}
 use Rattle.iax_frames.specs.FullFrame.{spelling}
 use Rattle.leg_machine.specs.Ticks.{tick_step}
 use Rattle.peer_legs.specs.Legs.{NamedLeg}
-use Rattle.peer_legs.specs.Rests.{is_resting}
+use Rattle.peer_accounts.specs.Accounts.{Credit, with_step}
+use Rattle.peer_legs.specs.Rests.{is_quiet, is_resting}
 use Rattle.outbox.specs.Outbox.{put, extended}
 use Rattle.peer_lock.specs.Peer.{PeerView, counted, flushed_if}
 use Rattle.peer_lock.specs.Pokes.{is_poke_due, pokes_after, pokes_sent}
 use Rattle.peer_lock.specs.Trunks.{has_any, waits, is_due}
+use Rattle.peer_lock.specs.declared.errors.StepsSpent.{StepsSpent}
 use Rattle.peer_lock.specs.declared.steps.TickReport.{TickReport}
 use Rattle.trunk_packer.specs.Queue.{QueueEntry, media_octets, PacksFront}
 
@@ -141,3 +143,13 @@ pub record Ticks (old : PeerView) (now : ℕ) (report : TickReport) (new : PeerV
   pub octets : ℕ
   pub packs : Packs between.rules.trunk_ms between now octets new
   pub packed : new.accounts.packed ≡ old.accounts.packed + report.packed
+
+-- The call `tick` had this result. `first_steps` is the step credit with which every peer begins, and the credits are those
+-- of the pass.
+pub record WasTicked (first_steps now : ℕ) (result : Result TickReport StepsSpent) (old new : PeerView)
+    (credit_old credit_new : Credit) : Type 0 where
+  pub spent : IsErr result ↔ (old.accounts.steps ≡ first_steps)
+  pub ticked : IfOk result (λ report. Ticks old now report new)
+  pub quiet : IfOk result (λ report. IsTrue report.is_quiet ↔ All (λ place. is_quiet place ≡ true) new.legs.places)
+  pub credit : OnOk result (credit_new ≡ with_step credit_old 0)
+  pub err : OnErr result ((new ≡ old) × (credit_new ≡ credit_old))

@@ -1,6 +1,6 @@
 //! The steps of a peer by which it handles a datagram ("Full Frames", "Mini Frames", "Meta Frames").
 ghost use Rattle.std.specs.Prelude.{◌≡◌, ◌≢◌, ◌+◌, ◌-◌, ◌<◌, ◌≤◌, ◌⊎◌, ◌↔◌, [], length, map, true, None, Some, Err, IsSome, IfOk};
-ghost use Rattle.std.specs.Prelude.{IfErr, OnOk, OnErr, IfSome, IsNone, IsTrue};
+ghost use Rattle.std.specs.Prelude.{IfErr, OnOk, OnErr, IsTrue};
 ghost use Rattle.leg_machine.specs.Leg.{is_record_full};
 ghost use Rattle.leg_machine.specs.Steps.{full_step, heard_of};
 ghost use Rattle.peer_accounts.specs.Accounts.{stepped, with_accepted, with_step as with_credit};
@@ -8,17 +8,15 @@ ghost use Rattle.peer_accounts.specs.Grants.{granted};
 ghost use Rattle.iax_frames.specs.FullFrame.{spelling};
 ghost use Rattle.peer_lock.specs.Arrivals as spec_of;
 ghost use Rattle.peer_lock.specs.Arrivals.{reached_step, delivered_step, datagram_step, datagram_refused};
-ghost use Rattle.peer_legs.specs.Finding.{can_reach, is_reached, found};
+ghost use Rattle.peer_legs.specs.Finding.{can_reach, found};
 ghost use Rattle.peer_lock.specs.Delivery.{delivery, delivery_refused, full_refused, Reaches};
-ghost use Rattle.peer_legs.specs.Legs.{NamedLeg as NamedLegValue, leg_at, leg_of_remote, with_leg};
+ghost use Rattle.peer_legs.specs.Legs.{NamedLeg as NamedLegValue, leg_at, with_leg};
 ghost use Rattle.peer_accounts.specs.HandedUp.{IsNothing};
-ghost use Rattle.peer_lock.specs.Makes.{Makes, IsUnchanged, IsDue};
+ghost use Rattle.peer_lock.specs.Makes.{Makes, IsUnchanged, IsDue, WasHandled};
 ghost use Rattle.peer_lock.specs.Peer as spec;
 ghost use Rattle.peer_lock.specs.Peer.{handed_up, leg_alone, offer_with, with_sent};
-ghost use Rattle.iax_frames.specs.declared.datagram.Datagram.{Datagram as DatagramValue};
 ghost use Rattle.peer_lock.specs.declared.errors.PeerError.{PeerError as PeerErrorValue};
 ghost use Rattle.peer_lock.specs.Unworked.{IsSoundFull, IsRefusedFull, IsCutFrame, IsSound, IsRefusedRead, IsShortDatagram};
-ghost use Rattle.peer_lock.specs.Unworked.{IsWorked, IsUnworked};
 ghost use Rattle.memory_requests.specs.Refused.{WasRefused};
 ghost use Rattle.peer_lock.specs.Asking.{MayAsk};
 
@@ -294,22 +292,8 @@ impl<J: LedgerSet> PeerState<J> {
         onwards: &mut Onwards,
     ) -> Result<Step, PeerError>
         requires nothing { IsNothing onwards.old }
-        // The result of a datagram that is handled.
-        ensures made { IfOk result (λ step. (d : DatagramValue) → IsWorked J.first_steps self.old.accounts.steps octets.now d
-            → Makes (datagram_step J.first_octets self.old d now) self.new step pass.old pass.new onwards.new) }
-        ensures worked { OnOk result ((d : DatagramValue) × IsWorked J.first_steps self.old.accounts.steps octets.now d) }
-        ensures unrefused { OnOk result ((d : DatagramValue) → IsWorked J.first_steps self.old.accounts.steps octets.now d →
-            datagram_refused self.old d now ≡ None) }
-        // Each refusal is returned if its cause holds.
-        ensures unworked { (e : PeerErrorValue) → IsUnworked J.first_steps self.old.accounts.steps octets.now e → result ≡ Err e }
-        ensures refused { IfErr result (λ e. IsUnworked J.first_steps self.old.accounts.steps octets.now e
-            ⊎ ((d : DatagramValue) × IsWorked J.first_steps self.old.accounts.steps octets.now d ×
-            IsDue (datagram_refused self.old d now) e)) }
-        ensures err { OnErr result (IsUnchanged self.old self.new pass.old pass.new onwards.new) }
-        ensures no_memory { result ≡ Err PeerError.Memory → WasRefused }
-        ensures memory { result ≡ Err PeerError.Memory →
-            (d : DatagramValue) → IsWorked J.first_steps self.old.accounts.steps octets.now d →
-            MayAsk self.old onwards.old.room d }
+        ensures { WasHandled J.first_octets J.first_steps octets.now now result self.old self.new pass.old pass.new
+            onwards.old.room onwards.new }
     {
         self.datagram_read(pass, &ReadDatagram::of(octets), now, onwards)
     }
@@ -326,23 +310,8 @@ impl<J: LedgerSet> PeerState<J> {
         onwards: &mut Onwards,
     ) -> Result<Step, PeerError>
         requires nothing { IsNothing onwards.old }
-        // The result of a datagram that is handled.
-        ensures made { IfOk result (λ step. (d : DatagramValue) → IsWorked J.first_steps self.old.accounts.steps datagram.now d
-            → Makes (datagram_step J.first_octets self.old d now) self.new step pass.old pass.new onwards.new) }
-        ensures worked { OnOk result ((d : DatagramValue) × IsWorked J.first_steps self.old.accounts.steps datagram.now d) }
-        ensures unrefused { OnOk result ((d : DatagramValue) → IsWorked J.first_steps self.old.accounts.steps datagram.now d
-            → datagram_refused self.old d now ≡ None) }
-        // Each refusal is returned if its cause holds.
-        ensures unworked { (e : PeerErrorValue) → IsUnworked J.first_steps self.old.accounts.steps datagram.now e →
-            result ≡ Err e }
-        ensures refused { IfErr result (λ e. IsUnworked J.first_steps self.old.accounts.steps datagram.now e
-            ⊎ ((d : DatagramValue) × IsWorked J.first_steps self.old.accounts.steps datagram.now d ×
-            IsDue (datagram_refused self.old d now) e)) }
-        ensures err { OnErr result (IsUnchanged self.old self.new pass.old pass.new onwards.new) }
-        ensures no_memory { result ≡ Err PeerError.Memory → WasRefused }
-        ensures memory { result ≡ Err PeerError.Memory →
-            (d : DatagramValue) → IsWorked J.first_steps self.old.accounts.steps datagram.now d →
-            MayAsk self.old onwards.old.room d }
+        ensures { WasHandled J.first_octets J.first_steps datagram.now now result self.old self.new pass.old pass.new
+            onwards.old.room onwards.new }
     {
         if self.account.is_spent() {
             return Err(PeerError::StepsSpent);

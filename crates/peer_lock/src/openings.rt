@@ -1,17 +1,15 @@
 //! The step of a peer that opens a leg ("Call Setup"), and the one that rejects a NEW for want of a number ("REJECT").
-ghost use Rattle.std.specs.Prelude.{◌≡◌, ◌≢◌, ◌+◌, ◌<◌, ◌≤◌, [], length, map, None, Some, IsNone, IsTrue, ◌↔◌, true, IfOk, IfErr};
+ghost use Rattle.std.specs.Prelude.{◌≡◌, ◌≢◌, ◌<◌, ◌≤◌, length, map, None, Some, true, IfOk};
 ghost use Rattle.std.specs.Prelude.{OnOk, OnErr, ℕ};
 ghost use Rattle.iax_frames.specs.FullFrame.{spelling};
 ghost use Rattle.peer_accounts.specs.Accounts.{with_step as with_credit};
 ghost use Rattle.peer_legs.specs.Legs.{IsLegOf, is_free_name, leg_at, leg_of_remote};
-ghost use Rattle.call_signals.specs.declared.outcomes.Judged.TheVariants.{Unnumbered};
 ghost use Rattle.peer_lock.specs.Peer.{handed_up, leg_alone, offer_with};
 ghost use Rattle.peer_accounts.specs.HandedUp.{IsNothing};
-ghost use Rattle.peer_lock.specs.Makes.{IsUnchanged};
 ghost use Rattle.leg_machine.specs.Openings.{open_out_step};
 ghost use Rattle.outbox.specs.Outbox.{put};
-ghost use Rattle.peer_lock.specs.Openings.{IsOpening, IsOpenRefusal, open_in_refused, open_out_refused};
-ghost use Rattle.peer_lock.specs.Openings.{opens_in, opens_out, reject_new_refused, rejects_new, with_seated};
+ghost use Rattle.peer_lock.specs.Openings.{IsOpening, WasOpenedIn, WasOpenedOut, WasRejected};
+ghost use Rattle.peer_lock.specs.Openings.{open_in_refused, open_out_refused, reject_new_refused, with_seated};
 ghost use Rattle.memory_requests.specs.Refused.{WasRefused};
 
 use crate::arrivals::hand_up;
@@ -99,17 +97,8 @@ impl<J: LedgerSet> PeerState<J> {
     ) -> Result<Step, (Lease, OpenError)>
         requires opening { IsOpening frame.now }
         requires nothing { IsNothing onwards.old }
-        ensures peer { OnOk result (self.new ≡ (opens_in self.old lease frame.now now challenge.now).peer) }
-        ensures step { IfOk result (λ step. step ≡ (opens_in self.old lease frame.now now challenge.now).step) }
-        ensures signals { OnOk result (onwards.new.signals ≡ (opens_in self.old lease frame.now now challenge.now).signals) }
-        ensures offer { OnOk result (onwards.new.offer ≡ (opens_in self.old lease frame.now now challenge.now).offer) }
-        ensures credit { OnOk result (pass.new ≡ with_credit pass.old 0) }
-        ensures unrefused { OnOk result (open_in_refused self.old J.first_steps lease frame.now.head.source ≡ None) }
-        ensures refused { IfErr result (λ back.
-            IsOpenRefusal (open_in_refused self.old J.first_steps lease frame.now.head.source) back.1) }
-        ensures lease { IfErr result (λ back. back.0 ≡ lease) }
-        ensures err { OnErr result (IsUnchanged self.old self.new pass.old pass.new onwards.new) }
-        ensures no_memory { IfErr result (λ back. back.1 ≡ OpenError.Memory → WasRefused) }
+        ensures { WasOpenedIn J.first_steps lease frame.now now challenge.now result self.old self.new pass.old pass.new
+            onwards.new }
     {
         let name = lease.name();
         if let Some(refusal) = self.new_refused(name, frame) {
@@ -193,12 +182,7 @@ impl<J: LedgerSet> PeerState<J> {
     /// has the NEW's source. Then nothing is changed.
     pub fn reject_new(&mut self, pass: &mut Pass<J>, frame: &Full) -> Result<Step, RejectError>
         requires { IsOpening frame.now }
-        ensures peer { OnOk result (self.new ≡ (rejects_new self.old frame.now).peer) }
-        ensures step { IfOk result (λ step. step ≡ (rejects_new self.old frame.now).step) }
-        ensures credit { OnOk result (pass.new ≡ with_credit pass.old 0) }
-        ensures unrefused { OnOk result (reject_new_refused self.old J.first_steps frame.now.head.source ≡ None) }
-        ensures refused { IfErr result (λ e. Some e ≡ reject_new_refused self.old J.first_steps frame.now.head.source) }
-        ensures err { OnErr result ((self.new ≡ self.old) × (pass.new ≡ pass.old)) }
+        ensures { WasRejected J.first_steps frame.now result self.old self.new pass.old pass.new }
     {
         if let Some(refusal) = self.rejecting_refused(frame) {
             return Err(refusal);
@@ -264,14 +248,7 @@ impl<J: LedgerSet> PeerState<J> {
         now: u64,
     ) -> Result<Step, (Lease, OpenError)>
         requires called { length called.now ≤ 255 }
-        ensures peer { OnOk result (self.new ≡ (opens_out self.old lease called.now caller.now format now).peer) }
-        ensures step { IfOk result (λ step. step ≡ leg_alone lease Unnumbered) }
-        ensures credit { OnOk result (pass.new ≡ with_credit pass.old 0) }
-        ensures unrefused { OnOk result (open_out_refused self.old J.first_steps lease ≡ None) }
-        ensures refused { IfErr result (λ back. IsOpenRefusal (open_out_refused self.old J.first_steps lease) back.1) }
-        ensures lease { IfErr result (λ back. back.0 ≡ lease) }
-        ensures err { OnErr result ((self.new ≡ self.old) × (pass.new ≡ pass.old)) }
-        ensures no_memory { IfErr result (λ back. back.1 ≡ OpenError.Memory → WasRefused) }
+        ensures { WasOpenedOut J.first_steps lease called.now caller.now format now result self.old self.new pass.old pass.new }
     {
         if let Some(refusal) = self.opening_refused(lease.name()) {
             return Err((lease, refusal));

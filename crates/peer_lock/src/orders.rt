@@ -1,16 +1,15 @@
 //! The steps of a peer by which a leg obeys an order ("Call Setup", "Control Frames", "Mini Frames", "Meta Frames").
-ghost use Rattle.std.specs.Prelude.{◌≡◌, ◌≢◌, ◌+◌, ◌-◌, ◌<◌, ◌≤◌, [], length, map, None, Some, Err, true, if◌then◌else◌, IsSome};
-ghost use Rattle.std.specs.Prelude.{IsTrue, ◌↔◌};
+ghost use Rattle.std.specs.Prelude.{◌≡◌, ◌≢◌, ◌+◌, ◌-◌, ◌<◌, ◌≤◌, length, None, Some, Err, true, if◌then◌else◌, IsSome};
 ghost use Rattle.std.specs.Prelude.{IfOk, IfErr, OnOk, OnErr};
 ghost use Rattle.leg_machine.specs.OrderTable.{IsShortMedia, is_voice, wants_memory, media_refused, order_refused};
 ghost use Rattle.leg_machine.specs.OrderTable.{order_carried};
 ghost use Rattle.leg_machine.specs.Media.{media_sent};
 ghost use Rattle.call_signals.specs.declared.outcomes.Judged.TheVariants.{Unnumbered};
-ghost use Rattle.peer_legs.specs.Legs.{NamedLeg as NamedLegValue, leg_at, leg_named};
+ghost use Rattle.peer_legs.specs.Legs.{NamedLeg as NamedLegValue, leg_at};
 ghost use Rattle.peer_lock.specs.Peer.{counted, leg_alone};
 ghost use Rattle.peer_lock.specs.Orders.{counted_media, queued_media, waiting_media, carries_media, with_media, with_order};
 ghost use Rattle.peer_lock.specs.Orders.{from_leg_due, IsOrderRefusal};
-ghost use Rattle.peer_lock.specs.Orders.{order_refused_by, ordered_step, order_octets};
+ghost use Rattle.peer_lock.specs.Orders.{WasOrdered, order_octets};
 ghost use Rattle.iax_frames.specs.TrunkFrame.{head_len};
 ghost use Rattle.peer_lock.specs.Trunks.{has_any, waits};
 ghost use Rattle.trunk_packer.specs.Queue.{trunk_octets};
@@ -233,16 +232,7 @@ impl<J: LedgerSet> PeerState<J> {
     ) -> Result<Step, OrderError>
         requires media { IsShortMedia order.now }
         requires credit { order_octets order.now ≤ pass.old.octets }
-        ensures peer { OnOk result (self.new ≡ ordered_step self.old name order.now now) }
-        ensures step { IfOk result (λ step. step ≡ leg_alone name Unnumbered) }
-        ensures octets { OnOk result (pass.new.octets + order_octets order.now ≡ pass.old.octets) }
-        ensures steps { OnOk result (pass.new.steps ≡ pass.old.steps + 1) }
-        ensures unrefused { OnOk result (order_refused_by self.old J.first_steps name order.now now ≡ None) }
-        ensures refused { IfErr result (IsOrderRefusal (order_refused_by self.old J.first_steps name order.now now)) }
-        ensures memory { result ≡ Err OrderError.Memory → (named : NamedLegValue) → leg_named self.old.legs name ≡ Some named
-            → wants_memory named.leg order.now now ≡ true }
-        ensures err { OnErr result ((self.new ≡ self.old) × (pass.new ≡ pass.old)) }
-        ensures no_memory { result ≡ Err OrderError.Memory → WasRefused }
+        ensures { WasOrdered J.first_steps name order.now now result self.old self.new pass.old pass.new }
     {
         if self.account.is_spent() {
             return Err(OrderError::StepsSpent);

@@ -1,19 +1,16 @@
 //! The state of one peer, under its lock.
-ghost use Rattle.std.specs.Prelude.{◌≡◌, ◌+◌, ◌^◌, ◌<◌, ◌≤◌, [], ◌∷◌, ◌↔◌, length, replicate, option_map, None, Some, false};
+ghost use Rattle.std.specs.Prelude.{◌≡◌, ◌+◌, ◌^◌, ◌<◌, ◌≤◌, [], replicate, None, Some, false};
 ghost use Rattle.std.specs.Prelude.{true, count_by, is_some};
-ghost use Rattle.std.specs.Prelude.{IfOk, IfErr, IsErr, IsNone, IfNone, IfSome, OnErr, OnSome, MatchOption};
-ghost use Rattle.std.specs.Bool.{OnTrue, OnFalse};
+ghost use Rattle.std.specs.Prelude.{IfOk, IfErr, OnErr};
 ghost use Rattle.call_signals.specs.declared.rules.PeerRules.{PeerRules as PeerRulesValue};
 ghost use Rattle.leg_machine.specs.PeerRules.{IsPeerRules};
-ghost use Rattle.outbox.specs.Outbox.{no_losses, with_waiting};
+ghost use Rattle.outbox.specs.Outbox.{no_losses};
 ghost use Rattle.peer_accounts.specs.Accounts.{no_accounts, carried};
-ghost use Rattle.peer_legs.specs.Legs.{NamedLeg as NamedLegValue, AreLegs, AreLegsOf, leg_at, leg_named};
-ghost use Rattle.seq_window.specs.History.{IsLegal};
-ghost use Rattle.peer_lock.specs.Peer.{flushed_if, without_leg};
+ghost use Rattle.peer_legs.specs.Legs.{AreLegs, AreLegsOf};
+ghost use Rattle.peer_lock.specs.Peer.{WasTakenInto, WasTakenOut, flushed_if};
 ghost use Rattle.peer_lock.specs.SoundPeer.{IsSoundPeer};
-ghost use Rattle.peer_lock.specs.Statuses.{IsHistory, facts_of, status_of, is_done};
+ghost use Rattle.peer_lock.specs.Statuses.{WasLookedAt, WasRetired};
 ghost use Rattle.peer_lock.specs.Trunks.{waits};
-ghost use Rattle.trunk_packer.specs.Queue.{media_octets};
 ghost use Rattle.memory_requests.specs.Refused.{WasRefused};
 
 use crate::closed::ClosedPeer;
@@ -210,27 +207,21 @@ impl<J: LedgerSet> PeerState<J> {
     /// Takes the oldest datagram of the outbox, and writes it over this one. If none waits, returns false and changes
     /// nothing.
     pub fn take_into(&mut self, out: &mut Out) -> bool
-        ensures taken { OnTrue result ((self.old.outbox.waiting ≡ out.new ∷ self.new.outbox.waiting)
-            × (self.new ≡ record self.old { outbox = with_waiting self.old.outbox self.new.outbox.waiting })) }
-        ensures empty { OnFalse result (self.old.outbox.waiting ≡ []) }
-        ensures same { OnFalse result ((self.new ≡ self.old) × (out.new ≡ out.old)) }
+        ensures { WasTakenInto result out.old out.new self.old self.new }
     {
         self.outbox.take_into(out)
     }
 
     /// Takes the oldest datagram of the outbox, or returns `None` if none waits.
     pub fn take_out(&mut self) -> Option<Out>
-        ensures { MatchOption result ((self.old.outbox.waiting ≡ []) × (self.new ≡ self.old))
-            (λ out. (self.old.outbox.waiting ≡ out ∷ self.new.outbox.waiting)
-            × (self.new ≡ record self.old { outbox = with_waiting self.old.outbox self.new.outbox.waiting })) }
+        ensures { WasTakenOut result self.old self.new }
     {
         self.outbox.take_out()
     }
 
     /// Returns the status of the leg of a local number, or `None` if there is none.
     pub fn look(&self, number: u16) -> Option<Status>
-        ensures status { result ≡ option_map status_of (leg_at self.now.legs number) }
-        ensures sound { IsSoundPeer self.now }
+        ensures { WasLookedAt number result self.now }
     {
         self.legs.get(number).map(|named| Status::of(named))
     }
@@ -240,18 +231,7 @@ impl<J: LedgerSet> PeerState<J> {
     ///
     /// Returns `None` if and only if no such leg has that name.
     pub fn retire(&mut self, name: LegName) -> Option<(Lease, EndedLeg)>
-        ensures none { IsNone result ↔ (is_done (leg_named self.old.legs name) ≡ false) }
-        ensures lease { IfSome result (λ retired. retired.0 ≡ name) }
-        ensures record { IfSome result (λ retired. (named : NamedLegValue) → leg_named self.old.legs name ≡ Some named
-            → (retired.1.history.entries ≡ named.leg.window.history) ×
-            IsLegal named.leg.window.width named.leg.window.limit named.leg.window.history) }
-        ensures facts { IfSome result (λ retired. (named : NamedLegValue) → leg_named self.old.legs name ≡ Some named
-            → retired.1.facts ≡ facts_of named) }
-        ensures ruled { IfSome result (λ retired.
-            IsLegal self.old.rules.window self.old.rules.record_limit retired.1.history.entries) }
-        ensures legal { IfSome result (λ retired. IsHistory retired.1.history.entries) }
-        ensures gone { OnSome result (self.new ≡ without_leg self.old name) }
-        ensures same { IfNone result (self.new ≡ self.old) }
+        ensures { WasRetired name result self.old self.new }
     {
         let leg = self.legs.named(name)?.leg();
         if !leg.stage().is_ended() || leg.owes() {

@@ -1,12 +1,10 @@
 //! The ticks of a peer ("Message Transport", "Meta Frames").
-ghost use Rattle.std.specs.Prelude.{◌≡◌, ◌≢◌, ◌+◌, ◌^◌, ◌<◌, ◌≤◌, ◌↔◌, ◌⊎◌, [], length, true, Option, Some, slice_get, slice_set};
-ghost use Rattle.std.specs.Prelude.{All, IsErr, IsTrue, IfSome, IfNone, IfOk, OnOk, OnErr};
-ghost use Rattle.peer_accounts.specs.Accounts.{with_step as with_credit};
+ghost use Rattle.std.specs.Prelude.{◌≡◌, ◌+◌, ◌^◌, ◌<◌, ◌≤◌, [], length, Option, Some, slice_get, slice_set};
+ghost use Rattle.std.specs.Prelude.{IfSome, IfNone};
 ghost use Rattle.peer_legs.specs.Legs.{NamedLeg as NamedLegValue};
 ghost use Rattle.outbox.specs.Outbox.{put};
-ghost use Rattle.peer_legs.specs.Rests.{is_quiet};
 ghost use Rattle.peer_lock.specs.Ticks.{asked, place_tick, flushed_ahead, TicksLegs, PacksOne, IsPacked, PacksMedia, PacksDue};
-ghost use Rattle.peer_lock.specs.Ticks.{Packs, Ticks};
+ghost use Rattle.peer_lock.specs.Ticks.{Packs, WasTicked};
 ghost use Rattle.trunk_packer.specs.Queue.{media_octets};
 
 use crate::errors::StepsSpent;
@@ -165,12 +163,7 @@ impl<J: LedgerSet> PeerState<J> {
     ///
     /// Returns `StepsSpent` if and only if the peer has no step credit left; then nothing is changed.
     pub fn tick(&mut self, pass: &mut Pass<J>, now: u64) -> Result<TickReport, StepsSpent>
-        ensures spent { IsErr result ↔ (self.old.accounts.steps ≡ J.first_steps) }
-        ensures ticked { IfOk result (λ report. Ticks self.old now report self.new) }
-        ensures quiet { IfOk result (λ report. IsTrue report.is_quiet ↔
-            All (λ place. is_quiet place ≡ true) self.new.legs.places) }
-        ensures credit { OnOk result (pass.new ≡ with_credit pass.old 0) }
-        ensures err { OnErr result ((self.new ≡ self.old) × (pass.new ≡ pass.old)) }
+        ensures { WasTicked J.first_steps now result self.old self.new pass.old pass.new }
     {
         if self.account.is_spent() {
             return Err(StepsSpent);

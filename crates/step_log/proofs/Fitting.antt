@@ -12,7 +12,7 @@ use Rattle.call_signals.specs.declared.order.OrderKind.{OrderKind}
 use Rattle.iax_frames.specs.FullFrame.{FullFrame}
 use Rattle.iax_frames.specs.declared.datagram.Datagram.{Datagram}
 use Rattle.leg_machine.specs.OrderTable.{IsShortMedia}
-use Rattle.step_log.specs.Followed.{Follow, Leads, LeadsAll, LeadsAt, Obeys, TakesOut, load_at, load_of_step, loads_at, place_of}
+use Rattle.step_log.specs.Followed.{Follow, Leads, LeadsAll, LeadsAt, Obeys, load_at, load_of_step, loads_at, place_of}
 use Rattle.step_log.specs.Notes.{media_of}
 use Rattle.step_log.specs.declared.made.Made.{Made}
 use Rattle.step_log.specs.declared.made.Made.TheVariants as mades
@@ -20,7 +20,7 @@ use Rattle.peer_lock.specs.Arrivals.{datagram_step}
 use Rattle.peer_lock.specs.Loads.{Load, Puts, datagram_load, load_of, no_load, order_load, plus, tick_load}
 use Rattle.peer_lock.specs.Openings.{opens_in, opens_out, rejects_new}
 use Rattle.peer_lock.specs.Orders.{order_octets, ordered_step}
-use Rattle.peer_lock.specs.Peer.{PeerView, without_leg}
+use Rattle.peer_lock.specs.Peer.{PeerView, TakesOut, without_leg}
 use Rattle.peer_lock.specs.Ticks.{Ticks}
 use Rattle.peer_lock.specs.declared.steps.TickReport.{TickReport}
 
@@ -106,8 +106,8 @@ module _ (datagrams : (first : ℕ) (peer : PeerView) (datagram : Datagram) (now
   step_puts (mades.Retire peer name (Some leg)) old new leads =
       subst (λ (p : PeerView). Puts no_load old p) (sym leads) (retiring old name)
   step_puts (mades.Retire peer name None) old new leads = unchanged old new leads
-  step_puts (mades.TakeOut peer (Some out)) old new leads = taken_puts out old new leads
-  step_puts (mades.TakeOut peer None) old new leads = unchanged old new leads.1
+  step_puts (mades.TakeOut peer (Some out)) old new leads = taken_puts out old new leads.oldest
+  step_puts (mades.TakeOut peer None) old new leads = unchanged old new leads.empty.1
   step_puts (mades.Look peer number answer) old new leads = unchanged old new leads
   step_puts (mades.Reserve peer answer) old new leads = unchanged old new leads
   step_puts (mades.Bridge one other answer) old new leads = unchanged old new leads

@@ -1,5 +1,6 @@
 pub mod Counted
 pub mod Fitting
+pub mod Leading
 pub mod Noting
 pub mod Stepping
 pub mod Orderly

@@ -6,7 +6,6 @@ use Rattle.call_book.specs.declared.leg_name.LegName.{LegName}
 use Rattle.call_signals.specs.Order.{kind_of}
 use Rattle.call_signals.specs.declared.order.Order.{Order}
 use Rattle.call_signals.specs.declared.order.Order.TheVariants as orders
-use Rattle.step_log.specs.Followed.{TakesOut}
 use Rattle.step_log.specs.Notes.{media_of}
 use Rattle.step_log.specs.Trails.{AreWaysOf, OrderedMedia, dropped_by_all, media_by, put_by_all, queued_by_all}
 use Rattle.peer_lock.specs.CarriedOn.{CarriedOn, CarriesByOrder, CarriesOn, CarriesOrder}
@@ -15,7 +14,7 @@ use Rattle.peer_lock.specs.CarriedOn.{nothing, ordered_in, put_by, queued_by}
 use Rattle.peer_lock.specs.CarriedOn as outs
 use Rattle.peer_lock.specs.CarriedOn.{GoesAhead, Piece, kept_by, queued_of}
 use Rattle.step_log.specs.Trails.{kept_by_all}
-use Rattle.peer_lock.specs.Peer.{PeerView}
+use Rattle.peer_lock.specs.Peer.{PeerView, TakesOut}
 
 -- ---- ways one after another
 

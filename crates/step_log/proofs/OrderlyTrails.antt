@@ -99,8 +99,8 @@ module _ (datagrams : (first : ℕ) (peer : PeerView) (datagram : Datagram) (now
   step_goes (mades.Tick peer now (Err spent)) old new sound leads = unchanged old new leads
   step_goes (mades.Retire peer name (Some leg)) old new sound leads = becomes old _ new leads (retiring old name)
   step_goes (mades.Retire peer name None) old new sound leads = unchanged old new leads
-  step_goes (mades.TakeOut peer (Some out)) old new sound leads = one_taken out old new leads
-  step_goes (mades.TakeOut peer None) old new sound leads = unchanged old new leads.1
+  step_goes (mades.TakeOut peer (Some out)) old new sound leads = one_taken out old new leads.oldest
+  step_goes (mades.TakeOut peer None) old new sound leads = unchanged old new leads.empty.1
   step_goes (mades.Look peer number answer) old new sound leads = unchanged old new leads
   step_goes (mades.Reserve peer answer) old new sound leads = unchanged old new leads
   step_goes (mades.Bridge one other answer) old new sound leads = unchanged old new leads

@@ -18,8 +18,7 @@ use Rattle.peer_lock.specs.Legs.{NamedLeg, leg_named}
 use Rattle.peer_lock.specs.Loads.{Load, datagram_load, load_of, no_load, order_load, plus, tick_load}
 use Rattle.peer_lock.specs.Openings.{opens_in, opens_out, rejects_new}
 use Rattle.peer_lock.specs.Orders.{ordered_step}
-use Rattle.peer_lock.specs.Outbox.{with_waiting}
-use Rattle.peer_lock.specs.Peer.{PeerView, without_leg}
+use Rattle.peer_lock.specs.Peer.{PeerView, WasTakenOut, without_leg}
 use Rattle.peer_lock.specs.SoundPeer.{IsSoundPeer}
 use Rattle.peer_lock.specs.Ticks.{Ticks}
 use Rattle.peer_lock.specs.declared.steps.Step.{Step}
@@ -57,11 +56,6 @@ pub record Obeys (name : LegName) (kind : OrderKind) (media : List ℕ) (now : �
   pub short : IsShortMedia order
   pub becomes : new ≡ ordered_step old name order now
 
--- the oldest datagram that waited in the outbox was taken out, and nothing else changed
-pub record TakesOut (out : List ℕ) (old new : PeerView) : Type 0 where
-  pub oldest : old.outbox.waiting ≡ out ∷ new.outbox.waiting
-  pub becomes : new ≡ record old { outbox = with_waiting old.outbox new.outbox.waiting }
-
 -- the effect on its peer of a noted step; a refused step changes nothing
 abbrev pub Leads : Made → PeerView → PeerView → Type 0
 Leads (mades.Datagram peer octets now (Ok step) onwards) old new = Works octets now step onwards old new
@@ -73,8 +67,7 @@ Leads (mades.OpenOut peer name called caller format now (Ok step)) old new =
 Leads (mades.Order peer name kind media now (Ok step)) old new = Obeys name kind media now old new
 Leads (mades.Tick peer now (Ok report)) old new = Ticks old now report new
 Leads (mades.Retire peer name (Some leg)) old new = new ≡ without_leg old name
-Leads (mades.TakeOut peer (Some out)) old new = TakesOut out old new
-Leads (mades.TakeOut peer None) old new = (old.outbox.waiting ≡ []) × (new ≡ old)
+Leads (mades.TakeOut peer out) old new = WasTakenOut out old new
 Leads made old new = new ≡ old
 
 -- the load that it puts there

@@ -1,10 +1,67 @@
 //! Laws of every trail that peers follow.
-ghost use Rattle.std.specs.Prelude.{◌≡◌, ◌+◌, ◌≤◌, ℕ, List, Some, slice_get};
-ghost use Rattle.step_log.specs.Followed.{AreSound, Follow, loads_at};
+ghost use Rattle.std.specs.Prelude.{◌≡◌, ◌+◌, ◌≤◌, ℕ, List, Option, None, Result, Some, Bool, if◌then◌else◌, slice_get};
+ghost use Rattle.call_book.specs.declared.leg_name.LegName.{LegName};
+ghost use Rattle.call_signals.specs.Order.{kind_of};
+ghost use Rattle.call_signals.specs.declared.format.Format.{Format};
+ghost use Rattle.call_signals.specs.declared.order.Order.{Order};
+ghost use Rattle.iax_frames.specs.FullFrame.{FullFrame};
+ghost use Rattle.leg_machine.specs.OrderTable.{IsShortMedia};
+ghost use Rattle.step_log.specs.Followed.{AreSound, Follow, Leads, loads_at};
+ghost use Rattle.step_log.specs.Notes.{given_up, media_of, without_lease};
 ghost use Rattle.step_log.specs.Trails.{CarriesTrail};
 ghost use Rattle.step_log.specs.declared.made.Made.{Made};
+ghost use Rattle.step_log.specs.declared.made.Made.TheVariants as mades;
+ghost use Rattle.peer_lock.specs.Accounts.{Credit};
+ghost use Rattle.peer_lock.specs.HandedUp.{HandedUp};
 ghost use Rattle.peer_lock.specs.Loads.{Puts, QueueHasRoom, dropped_for_room};
-ghost use Rattle.peer_lock.specs.Peer.{PeerView, to_send};
+ghost use Rattle.peer_lock.specs.Makes.{WasHandled};
+ghost use Rattle.peer_lock.specs.Openings.{WasOpenedIn, WasOpenedOut, WasRejected};
+ghost use Rattle.peer_lock.specs.Orders.{WasOrdered};
+ghost use Rattle.peer_lock.specs.Peer.{PeerView, WasTakenInto, WasTakenOut, to_send};
+ghost use Rattle.peer_lock.specs.Statuses.{WasRetired};
+ghost use Rattle.peer_lock.specs.Ticks.{WasTicked};
+ghost use Rattle.peer_lock.specs.declared.errors.OpenError.{OpenError};
+ghost use Rattle.peer_lock.specs.declared.errors.OrderError.{OrderError};
+ghost use Rattle.peer_lock.specs.declared.errors.PeerError.{PeerError};
+ghost use Rattle.peer_lock.specs.declared.errors.RejectError.{RejectError};
+ghost use Rattle.peer_lock.specs.declared.errors.StepsSpent.{StepsSpent};
+ghost use Rattle.peer_lock.specs.declared.steps.EndedLeg.{EndedLeg};
+ghost use Rattle.peer_lock.specs.declared.steps.Step.{Step};
+ghost use Rattle.peer_lock.specs.declared.steps.TickReport.{TickReport};
+
+/// A call of `NotedPeer` changes its peer as its note says, whether it makes a step or is refused. So the laws of trails hold
+/// for what these calls promise.
+pub fn calls_lead_as_noted()
+    ensures datagram_read { (first_octets first_steps number now room : ℕ) (octets : List ℕ) (result : Result Step PeerError)
+        (onwards : HandedUp) (old new : PeerView) (before after : Credit) →
+        WasHandled first_octets first_steps octets now result old new before after room onwards →
+        Leads (mades.Datagram number octets now result onwards) old new }
+    ensures open_in { (first_steps number now : ℕ) (name : LegName) (frame : FullFrame) (challenge : List ℕ)
+        (result : Result Step (LegName × OpenError)) (onwards : HandedUp) (old new : PeerView) (before after : Credit) →
+        WasOpenedIn first_steps name frame now challenge result old new before after onwards →
+        Leads (mades.OpenIn number name frame.head frame.payload now challenge (without_lease result) onwards) old new }
+    ensures reject_new { (first_steps number : ℕ) (frame : FullFrame) (result : Result Step RejectError) (old new : PeerView)
+        (before after : Credit) → WasRejected first_steps frame result old new before after →
+        Leads (mades.RejectNew number frame.head frame.payload result) old new }
+    ensures open_out { (first_steps number now : ℕ) (name : LegName) (called caller : List ℕ) (format : Format)
+        (result : Result Step (LegName × OpenError)) (old new : PeerView) (before after : Credit) →
+        WasOpenedOut first_steps name called caller format now result old new before after →
+        Leads (mades.OpenOut number name called caller format now (without_lease result)) old new }
+    ensures order { (first_steps number now : ℕ) (name : LegName) (order : Order) (result : Result Step OrderError)
+        (old new : PeerView) (before after : Credit) → IsShortMedia order →
+        WasOrdered first_steps name order now result old new before after →
+        Leads (mades.Order number name (kind_of order) (media_of order) now result) old new }
+    ensures tick { (first_steps number now : ℕ) (result : Result TickReport StepsSpent) (old new : PeerView)
+        (before after : Credit) → WasTicked first_steps now result old new before after →
+        Leads (mades.Tick number now result) old new }
+    ensures retire { (number : ℕ) (name : LegName) (result : Option (LegName × EndedLeg)) (old new : PeerView) →
+        WasRetired name result old new → Leads (mades.Retire number name (given_up result)) old new }
+    ensures take_out { (number : ℕ) (result : Option (List ℕ)) (old new : PeerView) → WasTakenOut result old new →
+        Leads (mades.TakeOut number result) old new }
+    ensures take_into { (number : ℕ) (result : Bool) (out_old out_new : List ℕ) (old new : PeerView) →
+        WasTakenInto result out_old out_new old new →
+        Leads (mades.TakeOut number (if result then Some out_new else None)) old new }
+{}
 
 /// The steps of a trail put no more into a peer's outbox and trunk queue than their loads together. As long as both have
 /// room for that and for what waited before, nothing is lost, and only quelched media is dropped.

@@ -1,32 +1,16 @@
 //! The steps of a peer, each noted under its pass.
-ghost use Rattle.std.specs.Prelude.{◌≡◌, ◌+◌, ◌≤◌, ◌↔◌, ◌⊎◌, [], length, option_map, true, false, if◌then◌else◌, All, Err, None};
-ghost use Rattle.std.specs.Prelude.{Some, IfErr, IfOk};
-ghost use Rattle.std.specs.Prelude.{IfNone, IfSome, IsErr, IsNone, IsTrue, OnErr, OnOk, OnSome};
-ghost use Rattle.std.specs.Bool.{OnTrue, OnFalse};
+ghost use Rattle.std.specs.Prelude.{◌≡◌, ◌≤◌, length, if◌then◌else◌, None, Some};
 ghost use Rattle.call_signals.specs.Order.{kind_of};
-ghost use Rattle.call_signals.specs.declared.outcomes.Judged.TheVariants.{Unnumbered};
-ghost use Rattle.iax_frames.specs.declared.datagram.Datagram.{Datagram as DatagramValue};
-ghost use Rattle.leg_machine.specs.OrderTable.{IsShortMedia, wants_memory};
-ghost use Rattle.peer_accounts.specs.Accounts.{with_step};
+ghost use Rattle.leg_machine.specs.OrderTable.{IsShortMedia};
 ghost use Rattle.peer_accounts.specs.HandedUp.{IsNothing};
-ghost use Rattle.peer_lock.specs.Legs.{NamedLeg as NamedLegValue, leg_at, leg_named};
-ghost use Rattle.peer_lock.specs.Rests.{is_quiet};
-ghost use Rattle.peer_lock.specs.Arrivals.{datagram_refused, datagram_step};
-ghost use Rattle.peer_lock.specs.Makes.{IsDue, IsUnchanged, Makes};
-ghost use Rattle.peer_lock.specs.Openings.{IsOpenRefusal, IsOpening, open_in_refused, open_out_refused, opens_in, opens_out};
-ghost use Rattle.peer_lock.specs.Openings.{reject_new_refused, rejects_new};
-ghost use Rattle.peer_lock.specs.Orders.{IsOrderRefusal, order_octets, order_refused_by, ordered_step};
-ghost use Rattle.peer_lock.specs.Peer.{leg_alone, without_leg};
-ghost use Rattle.peer_lock.specs.Statuses.{IsHistory, facts_of, is_done, status_of};
-ghost use Rattle.peer_lock.specs.Ticks.{Ticks};
-ghost use Rattle.peer_lock.specs.declared.errors.PeerError.{PeerError as PeerErrorValue};
-ghost use Rattle.peer_lock.specs.Unworked.{IsUnworked, IsWorked};
-ghost use Rattle.seq_window.specs.History.{IsLegal};
-ghost use Rattle.step_log.specs.Followed.{TakesOut};
+ghost use Rattle.peer_lock.specs.Makes.{WasHandled};
+ghost use Rattle.peer_lock.specs.Openings.{IsOpening, WasOpenedIn, WasOpenedOut, WasRejected};
+ghost use Rattle.peer_lock.specs.Orders.{WasOrdered, order_octets};
+ghost use Rattle.peer_lock.specs.Peer.{WasTakenInto, WasTakenOut};
+ghost use Rattle.peer_lock.specs.Statuses.{WasLookedAt, WasRetired};
+ghost use Rattle.peer_lock.specs.Ticks.{WasTicked};
 ghost use Rattle.step_log.specs.Notes.{Notes, given_up, media_of, note, without_lease};
 ghost use Rattle.step_log.specs.declared.made.Made.TheVariants as mades;
-ghost use Rattle.memory_requests.specs.Refused.{WasRefused};
-ghost use Rattle.peer_lock.specs.Asking.{MayAsk};
 
 use crate::made::{Made, push, told};
 use crate::noted_peer::NotedPeer;
@@ -89,22 +73,8 @@ impl<J: LedgerSet> NotedPeer<J> {
         requires nothing { IsNothing onwards.old }
         ensures noted { Notes (mades.Datagram self.old.number datagram.now now result onwards.new) pass.old pass.new }
         ensures number { self.new.number ≡ self.old.number }
-        ensures made { IfOk result (λ step. (d : DatagramValue) →
-            IsWorked J.first_steps self.old.state.accounts.steps datagram.now d
-            → Makes (datagram_step J.first_octets self.old.state d now) self.new.state step
-            pass.old.credit pass.new.credit onwards.new) }
-        ensures worked { OnOk result ((d : DatagramValue) × IsWorked J.first_steps self.old.state.accounts.steps datagram.now d) }
-        ensures unrefused { OnOk result ((d : DatagramValue) → IsWorked J.first_steps self.old.state.accounts.steps datagram.now d
-            → datagram_refused self.old.state d now ≡ None) }
-        ensures unworked { (e : PeerErrorValue) → IsUnworked J.first_steps self.old.state.accounts.steps datagram.now e →
-            result ≡ Err e }
-        ensures refused { IfErr result (λ e. IsUnworked J.first_steps self.old.state.accounts.steps datagram.now e
-            ⊎ ((d : DatagramValue) × IsWorked J.first_steps self.old.state.accounts.steps datagram.now d
-            × IsDue (datagram_refused self.old.state d now) e)) }
-        ensures err { OnErr result (IsUnchanged self.old.state self.new.state pass.old.credit pass.new.credit onwards.new) }
-        ensures no_memory { result ≡ Err PeerError.Memory → WasRefused }
-        ensures memory { result ≡ Err PeerError.Memory → (d : DatagramValue) →
-            IsWorked J.first_steps self.old.state.accounts.steps datagram.now d → MayAsk self.old.state onwards.old.room d }
+        ensures state { WasHandled J.first_octets J.first_steps datagram.now now result self.old.state self.new.state
+            pass.old.credit pass.new.credit onwards.old.room onwards.new }
     {
         let answer = self
             .state
@@ -139,18 +109,8 @@ impl<J: LedgerSet> NotedPeer<J> {
             (mades.OpenIn self.old.number lease frame.now.head frame.now.payload now challenge.now
             (without_lease result) onwards.new) pass.old pass.new }
         ensures number { self.new.number ≡ self.old.number }
-        ensures peer { OnOk result (self.new.state ≡ (opens_in self.old.state lease frame.now now challenge.now).peer) }
-        ensures step { IfOk result (λ step. step ≡ (opens_in self.old.state lease frame.now now challenge.now).step) }
-        ensures signals { OnOk result (onwards.new.signals ≡
-            (opens_in self.old.state lease frame.now now challenge.now).signals) }
-        ensures offer { OnOk result (onwards.new.offer ≡ (opens_in self.old.state lease frame.now now challenge.now).offer) }
-        ensures credit { OnOk result (pass.new.credit ≡ with_step pass.old.credit 0) }
-        ensures unrefused { OnOk result (open_in_refused self.old.state J.first_steps lease frame.now.head.source ≡ None) }
-        ensures refused { IfErr result (λ back.
-            IsOpenRefusal (open_in_refused self.old.state J.first_steps lease frame.now.head.source) back.1) }
-        ensures lease { IfErr result (λ back. back.0 ≡ lease) }
-        ensures err { OnErr result (IsUnchanged self.old.state self.new.state pass.old.credit pass.new.credit onwards.new) }
-        ensures no_memory { IfErr result (λ back. back.1 ≡ OpenError.Memory → WasRefused) }
+        ensures state { WasOpenedIn J.first_steps lease frame.now now challenge.now result self.old.state self.new.state
+            pass.old.credit pass.new.credit onwards.new }
     {
         let name = lease.name();
         let answer = self
@@ -182,12 +142,8 @@ impl<J: LedgerSet> NotedPeer<J> {
         requires { IsOpening frame.now }
         ensures noted { Notes (mades.RejectNew self.old.number frame.now.head frame.now.payload result) pass.old pass.new }
         ensures number { self.new.number ≡ self.old.number }
-        ensures peer { OnOk result (self.new.state ≡ (rejects_new self.old.state frame.now).peer) }
-        ensures step { IfOk result (λ step. step ≡ (rejects_new self.old.state frame.now).step) }
-        ensures credit { OnOk result (pass.new.credit ≡ with_step pass.old.credit 0) }
-        ensures unrefused { OnOk result (reject_new_refused self.old.state J.first_steps frame.now.head.source ≡ None) }
-        ensures refused { IfErr result (λ e. Some e ≡ reject_new_refused self.old.state J.first_steps frame.now.head.source) }
-        ensures err { OnErr result ((self.new.state ≡ self.old.state) × (pass.new.credit ≡ pass.old.credit)) }
+        ensures state { WasRejected J.first_steps frame.now result self.old.state self.new.state pass.old.credit
+            pass.new.credit }
     {
         let answer = self.state.reject_new(&mut pass.credits, frame);
         let made = Made::RejectNew(
@@ -220,14 +176,8 @@ impl<J: LedgerSet> NotedPeer<J> {
         ensures noted { Notes
             (mades.OpenOut self.old.number lease called.now caller.now format now (without_lease result)) pass.old pass.new }
         ensures number { self.new.number ≡ self.old.number }
-        ensures peer { OnOk result (self.new.state ≡ (opens_out self.old.state lease called.now caller.now format now).peer) }
-        ensures step { IfOk result (λ step. step ≡ leg_alone lease Unnumbered) }
-        ensures credit { OnOk result (pass.new.credit ≡ with_step pass.old.credit 0) }
-        ensures unrefused { OnOk result (open_out_refused self.old.state J.first_steps lease ≡ None) }
-        ensures refused { IfErr result (λ back. IsOpenRefusal (open_out_refused self.old.state J.first_steps lease) back.1) }
-        ensures lease { IfErr result (λ back. back.0 ≡ lease) }
-        ensures err { OnErr result ((self.new.state ≡ self.old.state) × (pass.new.credit ≡ pass.old.credit)) }
-        ensures no_memory { IfErr result (λ back. back.1 ≡ OpenError.Memory → WasRefused) }
+        ensures state { WasOpenedOut J.first_steps lease called.now caller.now format now result self.old.state
+            self.new.state pass.old.credit pass.new.credit }
     {
         let name = lease.name();
         let answer = self
@@ -266,17 +216,8 @@ impl<J: LedgerSet> NotedPeer<J> {
         ensures noted { Notes
             (mades.Order self.old.number name (kind_of order.now) (media_of order.now) now result) pass.old pass.new }
         ensures number { self.new.number ≡ self.old.number }
-        ensures peer { OnOk result (self.new.state ≡ ordered_step self.old.state name order.now now) }
-        ensures step { IfOk result (λ step. step ≡ leg_alone name Unnumbered) }
-        ensures octets { OnOk result (pass.new.credit.octets + order_octets order.now ≡ pass.old.credit.octets) }
-        ensures steps { OnOk result (pass.new.credit.steps ≡ pass.old.credit.steps + 1) }
-        ensures unrefused { OnOk result (order_refused_by self.old.state J.first_steps name order.now now ≡ None) }
-        ensures refused { IfErr result (IsOrderRefusal (order_refused_by self.old.state J.first_steps name order.now now)) }
-        ensures memory { result ≡ Err OrderError.Memory → (named : NamedLegValue) →
-            leg_named self.old.state.legs name ≡ Some named
-            → wants_memory named.leg order.now now ≡ true }
-        ensures err { OnErr result ((self.new.state ≡ self.old.state) × (pass.new.credit ≡ pass.old.credit)) }
-        ensures no_memory { result ≡ Err OrderError.Memory → WasRefused }
+        ensures state { WasOrdered J.first_steps name order.now now result self.old.state self.new.state pass.old.credit
+            pass.new.credit }
     {
         let answer = self.state.order(&mut pass.credits, name, order, now);
         let made = Made::Order(
@@ -301,12 +242,7 @@ impl<J: LedgerSet> NotedPeer<J> {
     pub fn tick(&mut self, pass: &mut Pass<J>, now: u64) -> Result<TickReport, StepsSpent>
         ensures noted { Notes (mades.Tick self.old.number now result) pass.old pass.new }
         ensures number { self.new.number ≡ self.old.number }
-        ensures spent { IsErr result ↔ (self.old.state.accounts.steps ≡ J.first_steps) }
-        ensures ticked { IfOk result (λ report. Ticks self.old.state now report self.new.state) }
-        ensures quiet { IfOk result (λ report. IsTrue report.is_quiet ↔
-            All (λ place. is_quiet place ≡ true) self.new.state.legs.places) }
-        ensures credit { OnOk result (pass.new.credit ≡ with_step pass.old.credit 0) }
-        ensures err { OnErr result ((self.new.state ≡ self.old.state) × (pass.new.credit ≡ pass.old.credit)) }
+        ensures state { WasTicked J.first_steps now result self.old.state self.new.state pass.old.credit pass.new.credit }
     {
         let answer = self.state.tick(&mut pass.credits, now);
         push(&mut pass.made, Made::Tick(self.number, now, answer));
@@ -318,8 +254,8 @@ impl<J: LedgerSet> NotedPeer<J> {
     /// peer.
     #[tactic(auto, using(crate::proofs::Counted::steps_in_longer, crate::proofs::Stepping::with_longer))]
     pub fn look(&self, pass: &mut Pass<J>, number: u16) -> Option<Status>
-        ensures status { result ≡ option_map status_of (leg_at self.now.state.legs number) }
         ensures noted { pass.new ≡ note (mades.Look self.now.number number result) pass.old }
+        ensures state { WasLookedAt number result self.now.state }
     {
         let answer = self.state.look(number);
         push(&mut pass.made, Made::Look(self.number, number, answer));
@@ -334,16 +270,7 @@ impl<J: LedgerSet> NotedPeer<J> {
     pub fn retire(&mut self, pass: &mut Pass<J>, name: LegName) -> Option<(Lease, EndedLeg)>
         ensures noted { pass.new ≡ note (mades.Retire self.old.number name (given_up result)) pass.old }
         ensures number { self.new.number ≡ self.old.number }
-        ensures none { IsNone result ↔ (is_done (leg_named self.old.state.legs name) ≡ false) }
-        ensures lease { IfSome result (λ retired. retired.0 ≡ name) }
-        ensures record { IfSome result (λ retired. (named : NamedLegValue) → leg_named self.old.state.legs name ≡ Some named
-            → (retired.1.history.entries ≡ named.leg.window.history) ×
-            IsLegal named.leg.window.width named.leg.window.limit named.leg.window.history) }
-        ensures facts { IfSome result (λ retired. (named : NamedLegValue) → leg_named self.old.state.legs name ≡ Some named
-            → retired.1.facts ≡ facts_of named) }
-        ensures legal { IfSome result (λ retired. IsHistory retired.1.history.entries) }
-        ensures gone { OnSome result (self.new.state ≡ without_leg self.old.state name) }
-        ensures same { IfNone result (self.new.state ≡ self.old.state) }
+        ensures state { WasRetired name result self.old.state self.new.state }
     {
         let answer = self.state.retire(name);
         let made = Made::Retire(self.number, name, seen_of(&answer));
@@ -357,8 +284,7 @@ impl<J: LedgerSet> NotedPeer<J> {
     pub fn take_out(&mut self, pass: &mut Pass<J>) -> Option<Out>
         ensures noted { pass.new ≡ note (mades.TakeOut self.old.number result) pass.old }
         ensures number { self.new.number ≡ self.old.number }
-        ensures oldest { IfSome result (λ out. TakesOut out self.old.state self.new.state) }
-        ensures empty { IfNone result ((self.old.state.outbox.waiting ≡ []) × (self.new.state ≡ self.old.state)) }
+        ensures state { WasTakenOut result self.old.state self.new.state }
     {
         let taken = self.state.take_out();
         let made = Made::TakeOut(self.number, seen_datagram(&taken));
@@ -372,9 +298,7 @@ impl<J: LedgerSet> NotedPeer<J> {
     pub fn take_into(&mut self, pass: &mut Pass<J>, out: &mut Out) -> bool
         ensures noted { pass.new ≡ note (mades.TakeOut self.old.number (if result then Some out.new else None)) pass.old }
         ensures number { self.new.number ≡ self.old.number }
-        ensures oldest { OnTrue result (TakesOut out.new self.old.state self.new.state) }
-        ensures empty { OnFalse result ((self.old.state.outbox.waiting ≡ []) × (self.new.state ≡ self.old.state)) }
-        ensures same { OnFalse result (out.new ≡ out.old) }
+        ensures state { WasTakenInto result out.old out.new self.old.state self.new.state }
     {
         let is_taken = self.state.take_into(out);
         let seen = if is_taken {

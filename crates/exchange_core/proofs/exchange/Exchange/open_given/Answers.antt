@@ -10,4 +10,5 @@ returns-in-Ok-clause-media g c =
     subst (λ old. TakesCredit len old.credit c.open_in-answer.new.pass.credit signals) c.lend-onwards.ensures.same
     (opening_takes c.deref_mut.result.now.state c.unwrap-lease.result c.opening_in-frame.result.now c.args.given.now.now
     c.unwrap-challenge.result.now len
-    c.lend-onwards.new.self.credit c.open_in-answer.new.pass.credit signals c.in-Ok.ensures.signals c.in-Ok.ensures.credit)
+    c.lend-onwards.new.self.credit c.open_in-answer.new.pass.credit signals
+    c.in-Ok.ensures.state.signals c.in-Ok.ensures.state.credit)

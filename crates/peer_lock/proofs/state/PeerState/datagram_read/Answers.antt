@@ -12,37 +12,43 @@ arrive-requires-clause-short g c κs within =
     c.if-is_spent.false c.if-datagram-gt2048.false c.datagram.invariant c.datagram.view_is c.in-Ok.is in
     short_datagram c.args.datagram.now c.in-Ok.spelled looked.reading.exact looked.short
 
-pub returns-in-Ok-clause-unworked : goal.returns-in-Ok-clause-unworked
-returns-in-Ok-clause-unworked g c =
-    read_unworked g.J.LedgerSet.first_steps c.args.self.now.accounts.steps c.args.datagram.now c.in-Ok.spelled
-    (looked_at _ c.args.self.now g.J.LedgerSet.first_steps c.is_spent.result _ c.args.datagram.now _ (Ok c.in-Ok.spelled)
+pub returns-in-Ok : goal.returns-in-Ok
+returns-in-Ok g c =
+    let looked =
+    looked_at _ c.args.self.now g.J.LedgerSet.first_steps c.is_spent.result _ c.args.datagram.now _ (Ok c.in-Ok.spelled)
     c.self.view_is c.is_spent.ensures.1
-    c.if-is_spent.false c.if-datagram-gt2048.false c.datagram.invariant c.datagram.view_is c.in-Ok.is)
-    c.arrive.result c.arrive.ensures.unsound
+    c.if-is_spent.false c.if-datagram-gt2048.false c.datagram.invariant c.datagram.view_is c.in-Ok.is in
+    record {
+      made = search rules;
+      worked = search rules;
+      unrefused = search rules;
+      unworked = read_unworked g.J.LedgerSet.first_steps c.args.self.now.accounts.steps c.args.datagram.now c.in-Ok.spelled looked
+          c.arrive.result c.arrive.ensures.unsound;
+      refused = read_due g.J.LedgerSet.first_steps c.args.self.now.accounts.steps c.args.datagram.now c.in-Ok.spelled looked
+          c.args.self.now c.args.now c.arrive.result c.arrive.ensures.refused;
+      err = search rules;
+      no_memory = search rules;
+      memory = search rules;
+    }
 
-pub returns-in-Ok-clause-refused : goal.returns-in-Ok-clause-refused
-returns-in-Ok-clause-refused g c =
-    read_due g.J.LedgerSet.first_steps c.args.self.now.accounts.steps c.args.datagram.now c.in-Ok.spelled
-    (looked_at _ c.args.self.now g.J.LedgerSet.first_steps c.is_spent.result _ c.args.datagram.now _ (Ok c.in-Ok.spelled)
-    c.self.view_is c.is_spent.ensures.1
-    c.if-is_spent.false c.if-datagram-gt2048.false c.datagram.invariant c.datagram.view_is c.in-Ok.is)
-    c.args.self.now c.args.now c.arrive.result c.arrive.ensures.refused
-
-pub returns-in-Err-clause-refused : goal.returns-in-Err-clause-refused
-returns-in-Err-clause-refused g c =
+pub returns-in-Err : goal.returns-in-Err
+returns-in-Err g c =
     let looked =
     looked_at _ c.args.self.now g.J.LedgerSet.first_steps c.is_spent.result _ c.args.datagram.now _ (Err c.in-Err.error)
     c.self.view_is c.is_spent.ensures.1
     c.if-is_spent.false c.if-datagram-gt2048.false c.datagram.invariant c.datagram.view_is c.in-Err.is in
-    inl (subst (IsUnworked g.J.LedgerSet.first_steps c.args.self.now.accounts.steps c.args.datagram.now) (sym c.from.ensures)
-    (err_refused g.J.LedgerSet.first_steps c.args.self.now.accounts.steps c.args.datagram.now looked.steps looked.short
-    c.in-Err.error looked.reading.exact))
+    record {
+      made = search rules;
+      worked = search rules;
+      unrefused = search rules;
+      unworked = search rules;
+      refused = inl (subst (IsUnworked g.J.LedgerSet.first_steps c.args.self.now.accounts.steps c.args.datagram.now)
+          (sym c.from.ensures) (err_refused g.J.LedgerSet.first_steps c.args.self.now.accounts.steps c.args.datagram.now
+          looked.steps looked.short c.in-Err.error looked.reading.exact));
+      err = search rules;
+      no_memory = search rules;
+      memory = search rules;
+    }
 
-pub returns-then-datagram-gt2048-clause-unworked : goal.returns-then-datagram-gt2048-clause-unworked
-returns-then-datagram-gt2048-clause-unworked c = search rules
-
-pub returns-then-datagram-gt2048-clause-refused : goal.returns-then-datagram-gt2048-clause-refused
-returns-then-datagram-gt2048-clause-refused c = search rules
-
-pub returns-in-Ok-clause-made : goal.returns-in-Ok-clause-made
-returns-in-Ok-clause-made c = search rules
+pub returns-then-datagram-gt2048 : goal.returns-then-datagram-gt2048
+returns-then-datagram-gt2048 c = search rules

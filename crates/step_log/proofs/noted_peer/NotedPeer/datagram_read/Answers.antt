@@ -3,7 +3,6 @@ use Rattle.step_log.proofs.noted_peer.NotedPeer.datagram_read.Goals as goal
 
 pub returns : goal.returns
 returns g c =
-    let made = c.datagram_read-answer.ensures in
     rw (sym c.self.view_is, sym c.pass.view_is)
     record {
       noted = record {
@@ -12,12 +11,5 @@ returns g c =
         begun = c.push.ensures.begun;
       };
       number = refl;
-      made = made.made;
-      worked = made.worked;
-      unrefused = made.unrefused;
-      unworked = made.unworked;
-      refused = made.refused;
-      err = made.err;
-      no_memory = made.no_memory;
-      memory = made.memory;
+      state = c.datagram_read-answer.ensures;
     }

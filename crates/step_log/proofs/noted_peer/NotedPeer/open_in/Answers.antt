@@ -3,7 +3,6 @@ use Rattle.step_log.proofs.noted_peer.NotedPeer.open_in.Goals as goal
 
 pub returns : goal.returns
 returns g c =
-    let made = c.open_in-answer.ensures in
     rw (sym c.self.view_is, sym c.pass.view_is)
     record {
       noted = record {
@@ -19,14 +18,5 @@ returns g c =
         begun = c.push.ensures.begun;
       };
       number = refl;
-      peer = made.peer;
-      step = made.step;
-      signals = made.signals;
-      offer = made.offer;
-      credit = made.credit;
-      unrefused = made.unrefused;
-      refused = made.refused;
-      lease = made.lease;
-      err = made.err;
-      no_memory = made.no_memory;
+      state = c.open_in-answer.ensures;
     }

@@ -3,7 +3,6 @@ use Rattle.step_log.proofs.noted_peer.NotedPeer.open_out.Goals as goal
 
 pub returns : goal.returns
 returns g c =
-    let made = c.open_out-answer.ensures in
     rw (sym c.self.view_is, sym c.pass.view_is)
     record {
       noted = record {
@@ -12,13 +11,5 @@ returns g c =
         begun = c.push.ensures.begun;
       };
       number = refl;
-      peer = made.peer;
-      step = made.step;
-      credit = made.credit;
-      unrefused = made.unrefused;
-      refused = made.refused;
-      lease = made.lease;
-      err = made.err;
-      no_memory =
-          made.no_memory;
+      state = c.open_out-answer.ensures;
     }

@@ -3,7 +3,6 @@ use Rattle.step_log.proofs.noted_peer.NotedPeer.order.Goals as goal
 
 pub returns : goal.returns
 returns g c =
-    let made = c.order-answer.ensures in
     rw (sym c.self.view_is, sym c.pass.view_is) record {
       noted = record {
         made = rw (sym c.kind.ensures, sym c.media_in.ensures)
@@ -11,14 +10,5 @@ returns g c =
         begun = c.push.ensures.begun;
       };
       number = refl;
-      peer = made.peer;
-      step = made.step;
-      octets = made.octets;
-      steps = made.steps;
-      unrefused = made.unrefused;
-      refused = made.refused;
-      memory = made.memory;
-      err =
-          made.err;
-      no_memory = made.no_memory;
+      state = c.order-answer.ensures;
     }

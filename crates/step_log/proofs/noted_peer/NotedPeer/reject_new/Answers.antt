@@ -3,7 +3,6 @@ use Rattle.step_log.proofs.noted_peer.NotedPeer.reject_new.Goals as goal
 
 pub returns : goal.returns
 returns g c =
-    let made = c.reject_new-answer.ensures in
     rw (sym c.self.view_is, sym c.pass.view_is)
     record {
       noted = record {
@@ -11,10 +10,5 @@ returns g c =
         begun = c.push.ensures.begun;
       };
       number = refl;
-      peer = made.peer;
-      step = made.step;
-      credit = made.credit;
-      unrefused = made.unrefused;
-      refused = made.refused;
-      err = made.err;
+      state = c.reject_new-answer.ensures;
     }

@@ -4,16 +4,9 @@ use Rattle.step_log.proofs.noted_peer.NotedPeer.retire.Goals as goal
 
 pub returns : goal.returns
 returns g c =
-    let made = c.retire-answer.ensures in
     rw (sym c.self.view_is, sym c.pass.view_is, sym c.seen_of.ensures) record {
       noted = noted_as c.pass.inside.credits
           c.push.ensures.begun c.push.ensures.items;
       number = refl;
-      none = made.none;
-      lease = made.lease;
-      «record» = made.«record»;
-      facts = made.facts;
-      legal = made.legal;
-      gone = made.gone;
-      same = made.same;
+      state = c.retire-answer.ensures;
     }

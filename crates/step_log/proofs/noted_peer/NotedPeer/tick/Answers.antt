@@ -3,16 +3,11 @@ use Rattle.step_log.proofs.noted_peer.NotedPeer.tick.Goals as goal
 
 pub returns : goal.returns
 returns g c =
-    let made = c.tick-answer.ensures in
     rw (sym c.self.view_is, sym c.pass.view_is) record {
       noted = record {
         made = c.push.ensures.items;
         begun = c.push.ensures.begun;
       };
       number = refl;
-      spent = made.spent;
-      ticked = made.ticked;
-      quiet = made.quiet;
-      credit = made.credit;
-      err = made.err;
+      state = c.tick-answer.ensures;
     }
