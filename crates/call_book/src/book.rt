@@ -9,6 +9,7 @@ use crate::errors::{BridgeError, ReserveError, Stale};
 use crate::lease::Lease;
 use crate::leg_name::LegName;
 use crate::name_table::NameTable;
+use crate::peer_id::PeerId;
 use crate::ranges::numbers_from;
 use memory_requests::{copied, push, with_capacity};
 use std::alloc::{AllocError, Global};
@@ -80,7 +81,7 @@ impl CallBook {
     ///
     /// Refusals are checked in this order. `SerialsSpent`: the next serial would be 2^64 - 1. `NoNumber`: no number of the
     /// peer is free, or the book doesn't know the peer.
-    pub fn reserve(&mut self, peer: u16) -> Result<Lease, ReserveError>
+    pub fn reserve(&mut self, peer: PeerId) -> Result<Lease, ReserveError>
         ensures answer { result ≡ reserve_answer self.old peer }
         ensures book { self.new ≡ after_reserve self.old peer }
 
@@ -93,14 +94,14 @@ impl CallBook {
         if self.next == u64::MAX {
             return Err(ReserveError::SerialsSpent);
         }
-        let place = usize::from(peer);
+        let place = peer.index();
         if place >= self.free.len() || self.free[place].is_empty() {
             return Err(ReserveError::NoNumber);
         }
         let queue = &mut self.free[place];
         let number = queue.pop_front().unwrap();
         let name = LegName {
-            peer,
+            peer: peer.get(),
             number,
             serial: self.next,
         };

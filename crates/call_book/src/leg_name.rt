@@ -1,4 +1,7 @@
 //! Names of call legs.
+ghost use Rattle.std.specs.Prelude.{◌≡◌};
+
+use crate::peer_id::PeerId;
 
 /// The name of a leg: a call number that is used again, under a serial that never is.
 #[derive(Clone, Copy, Debug, PartialEq, Eq)]
@@ -9,4 +12,13 @@ pub struct LegName {
     pub number: u16,
     /// How many names were given out before, plus the first serial.
     pub serial: u64,
+}
+
+impl LegName {
+    /// Returns the leg's peer.
+    pub fn owner(self) -> PeerId
+        ensures { result ≡ self.peer }
+    {
+        PeerId::new(self.peer)
+    }
 }

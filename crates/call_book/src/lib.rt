@@ -6,9 +6,11 @@ mod errors;
 mod lease;
 mod leg_name;
 mod name_table;
+mod peer_id;
 mod ranges;
 
 pub use book::CallBook;
 pub use errors::{BridgeError, ReserveError, Stale};
 pub use lease::Lease;
 pub use leg_name::LegName;
+pub use peer_id::PeerId;

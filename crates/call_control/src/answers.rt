@@ -8,7 +8,7 @@ use crate::need::Route;
 use crate::place::Place;
 use crate::reply::Reply;
 use crate::work::Work;
-use call_book::{LegName, ReserveError};
+use call_book::{LegName, PeerId, ReserveError};
 use leg_machine::{Cause, Format};
 use peer_lock::{OrderError, PeerError, Status};
 
@@ -81,7 +81,7 @@ impl Work {
         }
     }
 
-    fn after_reserve_in(&mut self, reply: &Reply, peer: u16)
+    fn after_reserve_in(&mut self, reply: &Reply, peer: PeerId)
         ensures { self.new ≡ record self.old { work = work.after_reserve_in reply.now peer self.old.work.rest } }
     {
         match reply {

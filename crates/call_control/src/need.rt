@@ -1,7 +1,7 @@
 //! The steps that a call needs.
 
 use crate::act::Act;
-use call_book::LegName;
+use call_book::{LegName, PeerId};
 use leg_machine::Format;
 
 /// The result of routing an offered call.
@@ -11,31 +11,31 @@ pub enum Route {
     Nowhere,
     /// The peer has no format of the call.
     WithoutFormat,
-    /// The peer at this place in the plan, in this format.
-    To(u16, Format),
+    /// This peer, in this format.
+    To(PeerId, Format),
 }
 
-/// A step that a call has to make next. A peer is its place in the plan.
+/// A step that a call has to make next.
 #[derive(Clone, Copy)]
 pub enum Need {
     /// Gives the datagram to this peer.
-    Datagram(u16),
+    Datagram(PeerId),
     /// Opens a leg by the received NEW, under a lease on this name.
     OpenIn(LegName),
     /// Rejects the received NEW at this peer.
-    RejectNew(u16),
+    RejectNew(PeerId),
     /// Opens a leg by a NEW of the exchange, under a lease on this name.
     OpenOut(LegName),
     /// Gives an order to the leg of this name.
     Order(LegName, Act),
     /// Ticks this peer.
-    Tick(u16),
+    Tick(PeerId),
     /// Reads the status of the leg of this peer and number.
-    Look(u16, u16),
+    Look(PeerId, u16),
     /// Takes out the leg of this name, if it has ended and owes nothing.
     Retire(LegName),
     /// Reserves a name of this peer in the book.
-    Reserve(u16),
+    Reserve(PeerId),
     /// Makes two names partners in the book.
     Bridge(LegName, LegName),
     /// Reads the partner of this name in the book.

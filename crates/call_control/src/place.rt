@@ -2,18 +2,18 @@
 ghost use Rattle.std.specs.Prelude.{◌≡◌};
 
 use crate::act::Act;
-use call_book::LegName;
+use call_book::{LegName, PeerId};
 use leg_machine::{Cause, Format, Signal};
 
-/// The place of a call among its steps. A peer is its place in the plan.
+/// The place of a call among its steps.
 #[derive(Clone, Copy)]
 pub enum Place {
     /// A datagram of this peer came.
-    Datagram(u16),
+    Datagram(PeerId),
     /// The datagram needs a number for its leg.
-    ReserveIn(u16),
+    ReserveIn(PeerId),
     /// No number is free for the NEW: it is rejected.
-    RejectNew(u16),
+    RejectNew(PeerId),
     /// The leg of the NEW is opened under this name.
     OpenIn(LegName),
     /// The opening was refused; the name was never bridged.
@@ -23,7 +23,7 @@ pub enum Place {
     /// The offered leg is rejected.
     Rejecting(LegName, Cause),
     /// The call of the offered leg leads to this peer, in this format.
-    ReserveOut(LegName, u16, Format),
+    ReserveOut(LegName, PeerId, Format),
     /// The offered leg, and the name of its far leg.
     Bridging(LegName, LegName, Format),
     /// The offered leg is accepted, before its far leg is opened.
@@ -43,7 +43,7 @@ pub enum Place {
     /// This leg is finished.
     Looking(LegName),
     /// The leg of this peer and number, if there is one, is finished.
-    LookingAt(u16, u16),
+    LookingAt(PeerId, u16),
     /// This leg owes: its partner is hung up, for the cause of the leg's end.
     FindingPartner(LegName, Cause),
     /// The leg that owes, and its partner.
@@ -55,11 +55,11 @@ pub enum Place {
     /// This leg was taken out.
     Freeing(LegName, Cause),
     /// This peer is ticked.
-    Tick(u16),
+    Tick(PeerId),
     /// This leg is hung up from outside.
     HangUp(LegName),
     /// A call to this peer is made from outside.
-    ReserveCall(u16),
+    ReserveCall(PeerId),
     /// The leg of that call is opened.
     OpenCall(LegName),
     /// Nothing is left to be done.

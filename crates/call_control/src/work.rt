@@ -7,7 +7,7 @@ use crate::act::Act;
 use crate::need::Need;
 use crate::place::Place;
 use crate::reply::Heard;
-use call_book::LegName;
+use call_book::{LegName, PeerId};
 use leg_machine::{Cause, Signal};
 use peer_lock::{Offer, Onwards};
 use std::marker::Model;
@@ -24,7 +24,7 @@ pub struct Work {
     // The leg that is finished after them.
     touched: Option<LegName>,
     // Of a tick: the peer, the next number, and how many numbers are left.
-    peer: u16,
+    peer: PeerId,
     number: u16,
     numbers_left: u16,
 }
@@ -44,16 +44,15 @@ impl Model for Work {
 impl Work {
     ghost use Rattle.call_control.specs.WorkState.{begun, offer_in, first_of, without_first};
 
-    /// Returns the steps of a datagram from this peer, which is its place in the plan.
-    pub fn of_datagram(peer: u16) -> Work
+    /// Returns the steps of a datagram from this peer.
+    pub fn of_datagram(peer: PeerId) -> Work
         ensures { result ≡ begun (work.of_datagram peer) }
     {
         Work::at(Place::Datagram(peer))
     }
 
-    /// Returns the steps of a tick at this peer, its place in the plan, whose call numbers are the next `count` from
-    /// `first` on.
-    pub fn of_tick(peer: u16, first: u16, count: u16) -> Work
+    /// Returns the steps of a tick at this peer, whose call numbers are the next `count` from `first` on.
+    pub fn of_tick(peer: PeerId, first: u16, count: u16) -> Work
         requires { first + count ≤ 2 ^ 16 }
         ensures { result ≡ begun (work.of_tick peer first count) }
     {
@@ -65,8 +64,8 @@ impl Work {
         }
     }
 
-    /// Returns the steps of a call from outside to this peer, its place in the plan.
-    pub fn of_call(peer: u16) -> Work
+    /// Returns the steps of a call from outside to this peer.
+    pub fn of_call(peer: PeerId) -> Work
         ensures { result ≡ begun (work.of_call peer) }
     {
         Work::at(Place::ReserveCall(peer))
@@ -91,7 +90,7 @@ impl Work {
             onwards: None,
             signals_left: 0,
             touched: None,
-            peer: 0,
+            peer: PeerId::new(0),
             number: 0,
             numbers_left: 0,
         }
@@ -124,7 +123,7 @@ impl Work {
             }
             Place::Dooming(name, cause) => Some(Need::Order(name, Act::Doom(cause))),
             Place::Passing(partner, act) => Some(Need::Order(partner, act)),
-            Place::Looking(name) => Some(Need::Look(name.peer, name.number)),
+            Place::Looking(name) => Some(Need::Look(name.owner(), name.number)),
             Place::LookingAt(peer, number) => Some(Need::Look(peer, number)),
             Place::HangingUp(_, partner, cause) => {
                 Some(Need::Order(partner, Act::Hangup(cause)))

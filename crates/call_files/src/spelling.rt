@@ -5,7 +5,7 @@ ghost use Rattle.call_files.specs.RowLines.{peer_text};
 use crate::Spelling;
 use call_records::{CallRow, RowTexts, push_row};
 use jiff::Timestamp;
-use peer_plan::Plan;
+use peer_plan::{PeerId, Plan};
 use std::alloc::{AllocError, Global};
 
 /// The date of the moment 0, at which the exchange was opened: microseconds since the beginning of 1970, in UTC.
@@ -40,7 +40,7 @@ impl<'a> RowSpelling<'a> {
         ensures { result.now ≡ peer_text self.now.plan.now place }
     {
         if place < self.plan.peer_count() {
-            self.plan.name(place)
+            self.plan.name(PeerId::new(place))
         } else {
             ""
         }

@@ -32,5 +32,10 @@ pub spared : (now place : ℕ) (clients left : List Client) (closed : Client) �
 spared now place clients left closed within is left_is gives weight none =
     let yields : gives_way now closed ≡ true =
     subst (λ (c : Option Client). IfSome c (λ client. gives_way now client ≡ true)) (found clients place closed within is) gives in
-    omega (arith, sum_by-swap_remove weight clients place closed within, ap weight is, ap (sum_by weight) left_is,
-    none closed yields)
+    omega (
+      arith,
+      sum_by-swap_remove weight clients place closed within,
+      ap weight is,
+      ap (sum_by weight) left_is,
+      none closed yields,
+    )

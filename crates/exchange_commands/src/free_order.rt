@@ -9,7 +9,7 @@ use call_auth::Challenge;
 use exchange_core::{CallError, Exchange, NoGate, Pass};
 use exchange_report::count_legs;
 use peer_lock::LedgerSet;
-use peer_plan::NumberRange;
+use peer_plan::{NumberRange, PeerId};
 use std::alloc::Global;
 use std::sync::Wait;
 
@@ -106,7 +106,7 @@ fn take_and_free<J: LedgerSet, R: Wait>(
     rt: &R,
     exchange: &Exchange<NoGate, J>,
     pass: &mut Pass<J>,
-    peer: u16,
+    peer: PeerId,
     numbers: &[u16],
     now: u64,
     challenge: &Challenge,

@@ -10,7 +10,7 @@ use call_auth::Challenge;
 use exchange_core::{Answer, Refusal, Retired};
 use exchange_report::{call_error_name, order_error_name, refusal_name};
 use peer_lock::{LedgerSet, Status};
-use peer_plan::Plan;
+use peer_plan::{PeerId, Plan};
 use std::alloc::Global;
 use std::sync::Wait;
 
@@ -74,7 +74,8 @@ fn is_event(line: &ScriptLine<'_>) -> bool {
 // Sets whether all peers drain, or none.
 fn drain<J: LedgerSet, R: Wait, V: Viewer>(desk: &mut Desk<'_, R, J, V>, drains: bool) {
     let exchange = desk.exchange;
-    for peer in 0..exchange.plan().peer_count() {
+    for place in 0..exchange.plan().peer_count() {
+        let peer = PeerId::new(place);
         exchange.set_draining(desk.rt, desk.pass, peer, drains);
     }
 }
@@ -298,8 +299,8 @@ impl Player {
         let exchange = desk.exchange;
         let (first, end) = places_of(exchange.plan(), line)?;
         self.stages.doubt_live();
-        for peer in first..end {
-            let answer = exchange.tick(desk.rt, desk.pass, peer, self.now);
+        for place in first..end {
+            let answer = exchange.tick(desk.rt, desk.pass, PeerId::new(place), self.now);
             if let Err(stop) = self.answered(answer, desk.viewer) {
                 return Err(stop);
             }
@@ -348,8 +349,8 @@ impl Player {
         line: &ScriptLine<'_>,
     ) -> Result<(), Stop> {
         let (first, end) = places_of(desk.exchange.plan(), line)?;
-        for peer in first..end {
-            if let Err(stop) = empty_outbox(desk, peer, self.now) {
+        for place in first..end {
+            if let Err(stop) = empty_outbox(desk, PeerId::new(place), self.now) {
                 return Err(stop);
             }
         }

@@ -3,7 +3,7 @@ use crate::desk::Desk;
 use crate::viewer::{Stop, Viewer};
 use leg_machine::Stage;
 use peer_lock::{LedgerSet, Status};
-use peer_plan::Plan;
+use peer_plan::{PeerId, Plan};
 use std::alloc::{AllocError, Global};
 use std::sync::Wait;
 
@@ -26,16 +26,17 @@ pub(crate) struct Stages {
     // By number, from 1 on.
     told: Vec<Option<Stage>>,
     // The peer of each number.
-    peers: Vec<u16>,
+    peers: Vec<PeerId>,
     // The places of the numbers whose reported stage is that of a leg, ascending.
     live: Vec<usize>,
     changed: Changed,
 }
 
 // Returns the peer of each number of a plan.
-fn peers_of(alloc: Global, plan: &Plan) -> Result<Vec<u16>, AllocError> {
+fn peers_of(alloc: Global, plan: &Plan) -> Result<Vec<PeerId>, AllocError> {
     let mut peers = Vec::new(alloc);
-    for peer in 0..plan.peer_count() {
+    for place in 0..plan.peer_count() {
+        let peer = PeerId::new(place);
         for _ in 0..plan.range(peer).count {
             if peers.push(peer).is_err() {
                 return Err(AllocError);
@@ -82,7 +83,7 @@ impl Stages {
     ) -> Option<Status> {
         let exchange = desk.exchange;
         match self.peers.get(usize::from(number).wrapping_sub(1)) {
-            Some(peer) if *peer < exchange.plan().peer_count() => {
+            Some(peer) if peer.get() < exchange.plan().peer_count() => {
                 exchange.status(desk.rt, desk.pass, *peer, number)
             }
             _ => None,

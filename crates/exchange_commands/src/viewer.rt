@@ -6,7 +6,7 @@ use crate::ScriptLine;
 use exchange_core::{Refusal, Retired};
 use exchange_report::MediaAccounts;
 use leg_machine::Stage;
-use peer_plan::{Endpoint, Plan};
+use peer_plan::{Endpoint, PeerId, Plan};
 use std::alloc::AllocError;
 use std::io;
 
@@ -50,8 +50,8 @@ pub struct PeerOfPlan<'a> {
 }
 
 impl<'a> PeerOfPlan<'a> {
-    /// Returns the peer at a place of the plan, with its endpoint and that of its worker.
-    pub fn at(plan: &'a Plan, place: u16) -> PeerOfPlan<'a>
+    /// Returns a peer of the plan, with its endpoint and that of its worker.
+    pub fn at(plan: &'a Plan, place: PeerId) -> PeerOfPlan<'a>
         requires { place < length plan.now.peers }
         ensures place { result.place ≡ place }
         ensures name { option_map (λ peer. peer.name) (slice_get plan.now.peers place) ≡ Some result.name.now }
@@ -61,10 +61,10 @@ impl<'a> PeerOfPlan<'a> {
     {
         let worker = plan.worker(place);
         PeerOfPlan {
-            place,
+            place: place.get(),
             name: plan.name(place),
             endpoint: plan.endpoint(place),
-            worker: plan.workers()[usize::from(worker)],
+            worker: plan.workers()[worker.index()],
         }
     }
 }

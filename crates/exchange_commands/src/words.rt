@@ -4,13 +4,13 @@ ghost use Rattle.std.specs.Prelude.{◌<◌, ◌≤◌, length, IfOk};
 use crate::ScriptLine;
 use crate::viewer::{PeerOfPlan, Stop};
 use exchange_report::peer_named;
-use peer_plan::{Endpoint, Plan};
+use peer_plan::{Endpoint, PeerId, Plan};
 use std::alloc::Global;
 use std::net::SocketAddrV4;
 use std::str;
 
-/// Returns the place in the plan, from 0 on, of the first peer with a name. A script has to name a peer of the plan.
-pub(crate) fn peer_of(plan: &Plan, name: &[u8]) -> Result<u16, Stop>
+/// Returns the first peer of the plan with a name. A script has to name a peer of the plan.
+pub(crate) fn peer_of(plan: &Plan, name: &[u8]) -> Result<PeerId, Stop>
     ensures { IfOk result (λ peer. peer < length plan.now.peers) }
 {
     match peer_named(plan, name) {
@@ -27,7 +27,7 @@ pub(crate) fn places_of(plan: &Plan, line: &ScriptLine<'_>) -> Result<(u16, u16)
     let count = plan.peer_count();
     match line {
         ScriptLine::TickOf(name) | ScriptLine::SendTo(name) => match peer_of(plan, name) {
-            Ok(peer) => Ok((peer, peer + 1)),
+            Ok(peer) => Ok((peer.get(), peer.get() + 1)),
             Err(stop) => Err(stop),
         },
         _ => Ok((0, count)),

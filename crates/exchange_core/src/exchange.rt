@@ -3,6 +3,7 @@ ghost use Rattle.std.specs.Prelude.{◌≡◌, ◌+◌, ◌*◌, length, vec_len
 
 use crate::gate::Gate;
 use crate::locked::Locked;
+use call_book::PeerId;
 use media_ledger::Supply;
 use peer_lock::LedgerSet;
 use peer_plan::Plan;
@@ -72,14 +73,14 @@ impl<G: Gate, J: LedgerSet> Exchange<G, J> {
         &self.plan
     }
 
-    /// Returns the peer that was put behind the lock of this place of the plan at the opening, before any call. Only contracts
+    /// Returns the peer that was put behind its lock at the opening, before any call. Only contracts
     /// see it. It has the plan's rules and range of numbers, no leg, and the shares that peers begin with. No clause says what
     /// a lock holds later, because any call may change it. Takes no lock.
-    pub fn first_peer(&self, peer: u16) -> &Snapshot<NotedPeer<J>>
+    pub fn first_peer(&self, peer: PeerId) -> &Snapshot<NotedPeer<J>>
         requires { peer < length self.now.peers }
         ensures { ∥ IsFirstPeer self.now peer result.now.value ∥₁ }
     {
-        self.peers[usize::from(peer)].first()
+        self.peers[peer.index()].first()
     }
 
     /// Returns the book that was put behind its lock at the opening, before any call. Only contracts see it. It has the plan's

@@ -21,7 +21,7 @@ use crate::exchange::Exchange;
 use crate::gate::Gate;
 use crate::resources::{Given, TaskResources};
 use crate::routing::format_for;
-use call_book::{Lease, LegName};
+use call_book::{Lease, LegName, PeerId};
 use call_control::Heard;
 use iax_frames::Full;
 use leg_machine::{Caller, Format};
@@ -50,7 +50,7 @@ struct Outgoing<'a> {
 }
 
 // Returns the lowest format of a peer.
-fn lowest_format(plan: &Plan, peer: u16) -> Format
+fn lowest_format(plan: &Plan, peer: PeerId) -> Format
     requires { peer < length plan.now.peers }
     ensures { option_map (λ peer. lowest_format peer.rules.formats) (slice_get plan.now.peers peer) ≡ Some (Some result) }
 {
@@ -61,7 +61,7 @@ fn lowest_format(plan: &Plan, peer: u16) -> Format
 }
 
 // Returns the values for the far leg of an offered call at a peer, or `None` if the peer has no format of the call.
-fn outgoing_for<'a>(plan: &Plan, peer: u16, offer: &'a Offer) -> Option<Outgoing<'a>>
+fn outgoing_for<'a>(plan: &Plan, peer: PeerId, offer: &'a Offer) -> Option<Outgoing<'a>>
     requires { peer < length plan.now.peers }
     ensures called { IfSome result (λ call. length call.called.now ≤ 255) }
     ensures is_for { IfSome result (λ call.
@@ -80,7 +80,7 @@ fn outgoing_for<'a>(plan: &Plan, peer: u16, offer: &'a Offer) -> Option<Outgoing
 // call.
 fn outgoing_at<'a>(
     plan: &Plan,
-    peer: u16,
+    peer: PeerId,
     called: Option<&'a [u8]>,
     offer: Option<&'a Offer>,
 ) -> Option<Outgoing<'a>>
@@ -92,7 +92,7 @@ fn outgoing_at<'a>(
     ensures none { IfNone result ((length plan.now.peers ≤ peer) ⊎
         ((option_copied called.entry ≡ None) × LacksFormat plan.now (option_copied offer.entry) peer)) }
 {
-    if peer >= plan.peer_count() {
+    if peer.get() >= plan.peer_count() {
         return None;
     }
     match called {
@@ -124,7 +124,7 @@ impl<G: Gate, J: LedgerSet> Exchange<G, J> {
         ensures no_remote { IfErr result (λ back. back.1 ≢ OpenError.RemoteBusy) }
         ensures refused { OnErr result (pass.new.credit ≡ pass.old.credit) }
     {
-        let peer = lease.name().peer;
+        let peer = lease.name().owner();
         match call.caller {
             Some(caller) => self
                 .locked(rt, peer)
@@ -159,7 +159,7 @@ impl<G: Gate, J: LedgerSet> Exchange<G, J> {
         ensures rest { (resources.new.denial ≡ resources.old.denial) × (resources.new.retired_legs ≡ resources.old.retired_legs) ×
             (resources.new.named ≡ resources.old.named) }
     {
-        let Some(call) = outgoing_at(&self.plan, name.peer, given.called, offer) else {
+        let Some(call) = outgoing_at(&self.plan, name.owner(), given.called, offer) else {
             pass.note_unasked();
             return Err(OpenError::NumberBusy);
         };
@@ -202,7 +202,7 @@ impl<G: Gate, J: LedgerSet> Exchange<G, J> {
         let lease = resources.lease.take().unwrap();
         let mut onwards = pass.lend(self.alloc);
         let answer = self
-            .locked(rt, name.peer)
+            .locked(rt, name.owner())
             .open_in(pass, lease, frame, given.now, challenge, &mut onwards);
         match answer {
             Ok(step) => Ok(Heard {
@@ -223,7 +223,7 @@ impl<G: Gate, J: LedgerSet> Exchange<G, J> {
         &self,
         rt: &R,
         pass: &mut Pass<J>,
-        peer: u16,
+        peer: PeerId,
         given: &Given<'_, '_, '_>,
     ) -> Result<(), RejectError>
         requires peer { peer < length self.now.peers }

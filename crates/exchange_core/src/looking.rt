@@ -3,7 +3,7 @@ ghost use Rattle.std.specs.Prelude.{◌≡◌, ◌<◌, ◌≤◌, IfSome, lengt
 
 use crate::exchange::Exchange;
 use crate::gate::Gate;
-use call_book::LegName;
+use call_book::{LegName, PeerId};
 use peer_lock::{Description, LedgerSet, Losses, Pokes, Status, Sums};
 use std::sync::Wait;
 use step_log::Pass;
@@ -14,14 +14,14 @@ impl<G: Gate, J: LedgerSet> Exchange<G, J> {
         &self,
         rt: &R,
         _pass: &mut Pass<J>,
-        peer: u16,
+        peer: PeerId,
         number: u16,
     ) -> Option<Status>
         requires { peer < length self.now.peers }
         ensures { _pass.new ≡ _pass.old }
     {
-        let state = self.peers[usize::from(peer)].lock(rt);
-        self.gate.enter(peer);
+        let state = self.peers[peer.index()].lock(rt);
+        self.gate.enter(peer.get());
         state.status(number)
     }
 
@@ -30,14 +30,14 @@ impl<G: Gate, J: LedgerSet> Exchange<G, J> {
         &self,
         rt: &R,
         _pass: &mut Pass<J>,
-        peer: u16,
+        peer: PeerId,
         number: u16,
     ) -> Option<Description>
         requires { peer < length self.now.peers }
         ensures { _pass.new ≡ _pass.old }
     {
-        let state = self.peers[usize::from(peer)].lock(rt);
-        self.gate.enter(peer);
+        let state = self.peers[peer.index()].lock(rt);
+        self.gate.enter(peer.get());
         state.describe(number)
     }
 
@@ -47,59 +47,59 @@ impl<G: Gate, J: LedgerSet> Exchange<G, J> {
         &self,
         rt: &R,
         _pass: &mut Pass<J>,
-        peer: u16,
+        peer: PeerId,
         number: u16,
     ) -> Option<Description>
         requires { peer < length self.now.peers }
         ensures pass { _pass.new ≡ _pass.old }
         ensures from { IfSome result (λ leg. number ≤ leg.status.name.number) }
     {
-        let state = self.peers[usize::from(peer)].lock(rt);
-        self.gate.enter(peer);
+        let state = self.peers[peer.index()].lock(rt);
+        self.gate.enter(peer.get());
         state.describe_from(number)
     }
 
     /// Returns the sums of the accounts of a peer of the plan. While calls continue, octets accepted from one peer may not
     /// yet be carried to another. So the sums over all peers balance only at the settlement.
-    pub fn sums<R: Wait>(&self, rt: &R, _pass: &mut Pass<J>, peer: u16) -> Sums
+    pub fn sums<R: Wait>(&self, rt: &R, _pass: &mut Pass<J>, peer: PeerId) -> Sums
         requires { peer < length self.now.peers }
         ensures pass { _pass.new ≡ _pass.old }
         ensures part { result.quelched ≤ result.dropped }
     {
-        let state = self.peers[usize::from(peer)].lock(rt);
-        self.gate.enter(peer);
+        let state = self.peers[peer.index()].lock(rt);
+        self.gate.enter(peer.get());
         state.sums()
     }
 
     /// Returns the number of datagrams for a peer of the plan that were lost because its outbox was full.
-    pub fn lost<R: Wait>(&self, rt: &R, _pass: &mut Pass<J>, peer: u16) -> Losses
+    pub fn lost<R: Wait>(&self, rt: &R, _pass: &mut Pass<J>, peer: PeerId) -> Losses
         requires { peer < length self.now.peers }
         ensures { _pass.new ≡ _pass.old }
     {
-        let state = self.peers[usize::from(peer)].lock(rt);
-        self.gate.enter(peer);
+        let state = self.peers[peer.index()].lock(rt);
+        self.gate.enter(peer.get());
         state.lost()
     }
 
     /// Returns the state of the exchange's POKEs to a peer of the plan.
-    pub fn pokes<R: Wait>(&self, rt: &R, _pass: &mut Pass<J>, peer: u16) -> Pokes
+    pub fn pokes<R: Wait>(&self, rt: &R, _pass: &mut Pass<J>, peer: PeerId) -> Pokes
         requires { peer < length self.now.peers }
         ensures { _pass.new ≡ _pass.old }
     {
-        let state = self.peers[usize::from(peer)].lock(rt);
-        self.gate.enter(peer);
+        let state = self.peers[peer.index()].lock(rt);
+        self.gate.enter(peer.get());
         state.pokes()
     }
 
     /// Returns the number of legs of a peer of the plan, 0 ..= 512. They are those that the peer has while this call has its
     /// lock; other calls may add or remove legs before and after.
-    pub fn leg_count<R: Wait>(&self, rt: &R, _pass: &mut Pass<J>, peer: u16) -> usize
+    pub fn leg_count<R: Wait>(&self, rt: &R, _pass: &mut Pass<J>, peer: PeerId) -> usize
         requires { peer < length self.now.peers }
         ensures pass { _pass.new ≡ _pass.old }
         ensures most { result ≤ 512 }
     {
-        let state = self.peers[usize::from(peer)].lock(rt);
-        self.gate.enter(peer);
+        let state = self.peers[peer.index()].lock(rt);
+        self.gate.enter(peer.get());
         state.leg_count()
     }
 

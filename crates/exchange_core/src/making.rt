@@ -26,7 +26,7 @@ ghost use Rattle.peer_accounts.specs.declared.onwards.Offer.{Offer as OfferValue
 use crate::exchange::Exchange;
 use crate::gate::Gate;
 use crate::resources::{Given, TaskResources};
-use call_book::{Lease, LegName, ReserveError, Stale};
+use call_book::{Lease, LegName, PeerId, ReserveError, Stale};
 use call_control::{Act, Heard, Need, Reply, Work};
 use peer_lock::laws::media_is_the_datagrams;
 use peer_lock::{LedgerSet, OpenError, OrderError, Status, StepsSpent};
@@ -59,7 +59,7 @@ impl<G: Gate, J: LedgerSet> Exchange<G, J> {
         &self,
         rt: &R,
         pass: &mut Pass<J>,
-        peer: u16,
+        peer: PeerId,
         given: &Given<'_, '_, '_>,
     ) -> Reply
         requires peer { peer < length self.now.peers }
@@ -97,7 +97,7 @@ impl<G: Gate, J: LedgerSet> Exchange<G, J> {
         &self,
         rt: &R,
         pass: &mut Pass<J>,
-        peer: u16,
+        peer: PeerId,
         given: &Given<'_, '_, '_>,
     ) -> Result<bool, StepsSpent>
         requires { peer < length self.now.peers }
@@ -136,7 +136,7 @@ impl<G: Gate, J: LedgerSet> Exchange<G, J> {
         }
         let order = act.order(given.datagram.octets());
         let answer = self
-            .locked(rt, name.peer)
+            .locked(rt, name.owner())
             .order(pass, name, &order, given.now);
         match answer {
             Ok(_) => Ok(()),
@@ -145,12 +145,18 @@ impl<G: Gate, J: LedgerSet> Exchange<G, J> {
     }
 
     // Returns the status of the leg of a number.
-    fn look_at<R: Wait>(&self, rt: &R, pass: &mut Pass<J>, peer: u16, number: u16) -> Option<Status>
+    fn look_at<R: Wait>(
+        &self,
+        rt: &R,
+        pass: &mut Pass<J>,
+        peer: PeerId,
+        number: u16,
+    ) -> Option<Status>
         ensures noted { (given : GivenValue) (offer : Option OfferValue) →
             Makes (call_of self.now given) offer (needs.Look peer number) (replies.Look result) pass.old pass.new }
         ensures credit { pass.new.credit ≡ pass.old.credit }
     {
-        if peer >= self.plan.peer_count() {
+        if peer.get() >= self.plan.peer_count() {
             pass.note_unasked();
             return None;
         }
@@ -178,7 +184,7 @@ impl<G: Gate, J: LedgerSet> Exchange<G, J> {
             pass.note_unasked();
             return false;
         }
-        let retired = self.locked(rt, name.peer).retire(pass, name);
+        let retired = self.locked(rt, name.owner()).retire(pass, name);
         let Some((lease, leg)) = retired else {
             return false;
         };
@@ -191,7 +197,7 @@ impl<G: Gate, J: LedgerSet> Exchange<G, J> {
         &self,
         rt: &R,
         pass: &mut Pass<J>,
-        peer: u16,
+        peer: PeerId,
         resources: &mut TaskResources,
     ) -> Result<LegName, ReserveError>
         ensures noted { (given : GivenValue) (offer : Option OfferValue) →

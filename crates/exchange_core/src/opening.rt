@@ -6,7 +6,7 @@ ghost use Rattle.exchange_core.specs.Start.{AreFirstPeers, HasNoCredit, HasNoSte
 use crate::exchange::{Exchange, PeerCell};
 use crate::gate::Gate;
 use crate::locked::Locked;
-use call_book::CallBook;
+use call_book::{CallBook, PeerId};
 use media_ledger::shares::supply;
 use media_ledger::{Blank, Share, Supply, SupplyError};
 use peer_lock::{LedgerSet, PeerState};
@@ -277,7 +277,7 @@ fn push_equal(amounts: &mut Vec<u64>, count: u16, amount: u64) -> Result<(), All
 fn state_of<J: LedgerSet>(
     alloc: Global,
     plan: &Plan,
-    peer: u16,
+    peer: PeerId,
     octets: Share<J::Octets>,
     steps: Share<J::Steps>,
 ) -> Result<NotedPeer<J>, AllocError>
@@ -290,7 +290,7 @@ fn state_of<J: LedgerSet>(
     let range = plan.range(peer);
     match PeerState::new(
         alloc,
-        peer,
+        peer.get(),
         plan.rules(peer),
         range.first,
         range.count,
@@ -331,7 +331,8 @@ fn push_cells<J: LedgerSet>(
     ensures len { OnOk result (vec_len cells.new ≡ peers) }
     ensures peers { OnOk result (AreFirstPeers plan.now 0 cells.new.items) }
 {
-    for peer in 0..peers {
+    for place in 0..peers {
+        let peer = PeerId::new(place);
         let o = last_of(octets);
         let s = last_of(steps);
         let state = state_of(alloc, plan, peer, o, s)?;

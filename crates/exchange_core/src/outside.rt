@@ -19,7 +19,7 @@ use crate::exchange::Exchange;
 use crate::gate::Gate;
 use crate::resources::Given;
 use call_auth::Challenge;
-use call_book::LegName;
+use call_book::{LegName, PeerId};
 use call_control::Work;
 use peer_lock::{LedgerSet, OrderError, ReadDatagram};
 use peer_plan::Endpoint;
@@ -118,7 +118,7 @@ impl<G: Gate, J: LedgerSet> Exchange<G, J> {
         ensures reason { result.refused ≢ Some Refusal.Stranger →
             option_map Denial.Call result.refused ≡ denied_since pass.old pass.new }
     {
-        let Some(peer) = self.plan.peer_of(from) else {
+        let Some(peer) = self.plan.peer_at(from) else {
             return Answer {
                 steps: 0,
                 refused: Some(Refusal::Stranger),
@@ -126,6 +126,40 @@ impl<G: Gate, J: LedgerSet> Exchange<G, J> {
                 retired: Vec::new(self.alloc),
             };
         };
+        self.datagram_of(rt, pass, peer, octets, now, challenge)
+    }
+
+    /// Handles a datagram of a peer of the plan at the moment `now`, in milliseconds, as `datagram` does for an endpoint of
+    /// this peer: the peer's step, then the steps that follow from it. It doesn't search for the peer.
+    ///
+    /// If it is refused, for one of the causes of `Refusal` except `Stranger`, no step was made.
+    pub fn datagram_of<R: Wait>(
+        &self,
+        rt: &R,
+        pass: &mut Pass<J>,
+        peer: PeerId,
+        octets: &[u8],
+        now: u64,
+        challenge: &Challenge,
+    ) -> Answer
+        requires { peer < length self.now.peers }
+        // Exactly the steps that the table of the call named were made under the pass, in its order, and it ended.
+        ensures all { MakesAll (record (moment self.now now) {
+          octets = octets.now;
+          challenge = Some challenge.now;
+        }) (begun (work.of_datagram peer)) pass.old pass.new }
+        // The rejection in these steps, if there is one. It is a step, and no refusal.
+        ensures rejected { result.rejected ≡ rejected_since pass.old pass.new }
+        ensures counted { IsSome result.rejected → 1 ≤ result.steps }
+        // The legs that were taken out in these steps, and no others, with their records.
+        ensures retired { Leave now pass.old pass.new (map departure_of result.retired.items) }
+        ensures steps { pass.new.credit.steps ≡ pass.old.credit.steps + result.steps }
+        ensures some { IfNone result.refused (1 ≤ result.steps) }
+        ensures refused { IsSome result.refused → (result.steps ≡ 0) × (pass.new.credit ≡ pass.old.credit) }
+        // The refusal is the one that these steps gave.
+        ensures known { result.refused ≢ Some Refusal.Stranger }
+        ensures reason { option_map Denial.Call result.refused ≡ denied_since pass.old pass.new }
+    {
         let given = Given {
             datagram: ReadDatagram::of(octets),
             challenge: Some(challenge),
@@ -149,7 +183,7 @@ impl<G: Gate, J: LedgerSet> Exchange<G, J> {
     /// its legs that has ended, by ascending number.
     ///
     /// If it is refused, no step was made.
-    pub fn tick<R: Wait>(&self, rt: &R, pass: &mut Pass<J>, peer: u16, now: u64) -> Answer
+    pub fn tick<R: Wait>(&self, rt: &R, pass: &mut Pass<J>, peer: PeerId, now: u64) -> Answer
         requires { peer < length self.now.peers }
         // It checks all numbers of the peer.
         ensures all { MakesAll (moment self.now now)
@@ -183,7 +217,7 @@ impl<G: Gate, J: LedgerSet> Exchange<G, J> {
         &self,
         rt: &R,
         pass: &mut Pass<J>,
-        peer: u16,
+        peer: PeerId,
         called: &[u8],
         now: u64,
     ) -> Result<LegName, CallError>

@@ -7,6 +7,7 @@ ghost use Rattle.step_log.specs.declared.made.Made.TheVariants as mades;
 
 use crate::exchange::Exchange;
 use crate::gate::Gate;
+use call_book::PeerId;
 use iax_frames::Out;
 use peer_lock::LedgerSet;
 use std::sync::{MutexGuard, Wait};
@@ -15,7 +16,7 @@ use step_log::{NotedPeer, Pass};
 // Asserts that the peer under a lock is that of the lock. The loop is never reached: `push_cells` puts the peer of each place
 // under the lock of that place, only `NotedPeer::new` sets a number, and a guard is used for method calls alone. No clause can
 // say so, because a lock hides its value. A refusal doesn't fit: each step's clauses say that it was made at this peer.
-fn expect_peer<R: Wait, J: LedgerSet>(rt: &R, state: &NotedPeer<J>, peer: u16)
+fn expect_peer<R: Wait, J: LedgerSet>(rt: &R, state: &NotedPeer<J>, peer: PeerId)
     ensures { state.now.number ≡ peer }
 {
     if state.number() != peer {
@@ -25,13 +26,13 @@ fn expect_peer<R: Wait, J: LedgerSet>(rt: &R, state: &NotedPeer<J>, peer: u16)
 }
 
 impl<G: Gate, J: LedgerSet> Exchange<G, J> {
-    // Returns the peer at this place of the plan, under its lock.
-    pub(crate) fn locked<R: Wait>(&self, rt: &R, peer: u16) -> MutexGuard<'_, NotedPeer<J>>
+    // Returns a peer of the plan, under its lock.
+    pub(crate) fn locked<R: Wait>(&self, rt: &R, peer: PeerId) -> MutexGuard<'_, NotedPeer<J>>
         requires { peer < length self.now.peers }
         ensures { (mutex_guard_value result).number ≡ peer }
     {
-        let state = self.peers[usize::from(peer)].lock(rt);
-        self.gate.enter(peer);
+        let state = self.peers[peer.index()].lock(rt);
+        self.gate.enter(peer.get());
         expect_peer(rt, &*state, peer);
         state
     }
@@ -39,7 +40,7 @@ impl<G: Gate, J: LedgerSet> Exchange<G, J> {
     /// Sets whether a peer of the plan drains. While it does, a NEW that belongs to no leg opens none and is answered by
     /// REJECT with cause 42, in every plan version. Current legs continue, and so do calls that are being set up. It is no
     /// step.
-    pub fn set_draining<R: Wait>(&self, rt: &R, _pass: &mut Pass<J>, peer: u16, drains: bool)
+    pub fn set_draining<R: Wait>(&self, rt: &R, _pass: &mut Pass<J>, peer: PeerId, drains: bool)
         requires { peer < length self.now.peers }
         ensures { _pass.new ≡ _pass.old }
     {
@@ -48,7 +49,7 @@ impl<G: Gate, J: LedgerSet> Exchange<G, J> {
     }
 
     /// Takes the oldest datagram for a peer of the plan, or returns `None` if none waits. It is noted, and is no step.
-    pub fn take_out<R: Wait>(&self, rt: &R, pass: &mut Pass<J>, peer: u16) -> Option<Out>
+    pub fn take_out<R: Wait>(&self, rt: &R, pass: &mut Pass<J>, peer: PeerId) -> Option<Out>
         requires { peer < length self.now.peers }
         ensures { pass.new ≡ note (mades.TakeOut peer result) pass.old }
     {
@@ -58,7 +59,13 @@ impl<G: Gate, J: LedgerSet> Exchange<G, J> {
 
     /// Takes the oldest datagram for a peer of the plan, and writes it over this one. If none waits, returns false and
     /// changes nothing. It is noted, and is no step.
-    pub fn take_into<R: Wait>(&self, rt: &R, pass: &mut Pass<J>, peer: u16, out: &mut Out) -> bool
+    pub fn take_into<R: Wait>(
+        &self,
+        rt: &R,
+        pass: &mut Pass<J>,
+        peer: PeerId,
+        out: &mut Out,
+    ) -> bool
         requires { peer < length self.now.peers }
         ensures noted { pass.new ≡ note (mades.TakeOut peer (if result then Some out.new else None)) pass.old }
         ensures same { OnFalse result (out.new ≡ out.old) }

@@ -8,7 +8,7 @@ ghost use Rattle.exchange_core.specs.declared.resources.Given.{Given as GivenVal
 
 use crate::exchange::Exchange;
 use crate::gate::Gate;
-use call_book::LegName;
+use call_book::{LegName, PeerId};
 use call_control::Route;
 use leg_machine::{Format, Formats};
 use peer_lock::{LedgerSet, Offer};
@@ -23,13 +23,14 @@ pub(crate) fn format_for(offer: &Offer, formats: Formats) -> Option<Format>
 }
 
 // Returns the route of an offered call of a peer.
-fn route_for(plan: &Plan, caller: u16, offer: &Offer) -> Route
+fn route_for(plan: &Plan, caller: PeerId, offer: &Offer) -> Route
     ensures route { IsRoute plan.now caller (Some offer.now) result }
     ensures inside { LeadsInside result (length plan.now.peers) }
 {
     let Some(peer) = plan.route(caller, offer.called.as_slice()) else {
         return Route::Nowhere;
     };
+    let peer = PeerId::new(peer);
     match format_for(offer, plan.rules(peer).formats) {
         Some(format) => Route::To(peer, format),
         None => Route::WithoutFormat,
@@ -37,7 +38,7 @@ fn route_for(plan: &Plan, caller: u16, offer: &Offer) -> Route
 }
 
 // Returns the route of the call that a leg of a peer offers.
-fn route(plan: &Plan, caller: u16, offer: Option<&Offer>) -> Route
+fn route(plan: &Plan, caller: PeerId, offer: Option<&Offer>) -> Route
     ensures route { IsRoute plan.now caller (option_copied offer.entry) result }
     ensures inside { LeadsInside result (length plan.now.peers) }
 {
@@ -62,6 +63,6 @@ impl<G: Gate, J: LedgerSet> Exchange<G, J> {
         ensures inside { LeadsInside result (length self.now.peers) }
     {
         pass.note_unasked();
-        route(&self.plan, offered.peer, offer)
+        route(&self.plan, offered.owner(), offer)
     }
 }

@@ -8,7 +8,7 @@ ghost use Rattle.step_log.specs.declared.made.Made.TheVariants as mades;
 
 use crate::exchange::Exchange;
 use crate::gate::Gate;
-use call_book::LegName;
+use call_book::{LegName, PeerId};
 use peer_lock::LedgerSet;
 use std::sync::Wait;
 use step_log::Pass;
@@ -16,7 +16,7 @@ use step_log::Pass;
 impl<G: Gate, J: LedgerSet> Exchange<G, J> {
     /// Reserves a name of a peer and returns it at once, so that its number comes behind the peer's other free numbers.
     /// These are two steps of the book, and no step of the peer. Returns the name, or `None` if the book refused it.
-    pub fn skip_number<R: Wait>(&self, rt: &R, pass: &mut Pass<J>, peer: u16) -> Option<LegName>
+    pub fn skip_number<R: Wait>(&self, rt: &R, pass: &mut Pass<J>, peer: PeerId) -> Option<LegName>
         ensures skipped { IfSome result (λ name. (former : Result (Option LegNameValue) StaleValue) ×
             (pass.new ≡ note (mades.Release name former) (note (mades.Reserve peer (Ok name)) pass.old))) }
         ensures none { IfNone result ((error : ReserveErrorValue) ×

@@ -1,7 +1,8 @@
 //! The stage that workers read while they run, and the events that they report.
 
 use crate::{Refusal, Rejection, Retired};
-use peer_plan::Endpoint;
+use call_book::PeerId;
+use peer_plan::{Endpoint, WorkerId};
 
 /// The stage of a service.
 #[derive(Clone, Copy, Debug, PartialEq, Eq)]
@@ -14,27 +15,27 @@ pub enum ServiceStage {
     Ended,
 }
 
-/// An event of a turn. A peer is named by its place in the plan.
+/// An event of a turn.
 #[derive(Clone, Copy, Debug, PartialEq, Eq)]
 pub enum Event {
     /// A datagram of a peer was received, at this moment, in milliseconds since the exchange was opened.
-    Received { peer: u16, now: u64 },
+    Received { peer: PeerId, now: u64 },
     /// The exchange refused it.
-    Refused { peer: u16, refusal: Refusal },
+    Refused { peer: PeerId, refusal: Refusal },
     /// The exchange accepted it, and rejected its request in the answer.
-    Rejected { peer: u16, rejection: Rejection },
+    Rejected { peer: PeerId, rejection: Rejection },
     /// It was kept from the exchange: a NEW, while the service drains.
-    TurnedAway { peer: u16 },
+    TurnedAway { peer: PeerId },
     /// A datagram was received from an endpoint that no peer of the plan has, and is refused.
     Stranger { from: Endpoint },
     /// A datagram was sent to a peer.
-    Sent { peer: u16 },
+    Sent { peer: PeerId },
     /// The wire didn't take a datagram to a peer: it is lost.
-    Lost { peer: u16 },
+    Lost { peer: PeerId },
     /// A call of the wire failed.
     Fault,
     /// A leg of a peer was taken out.
-    Retired { peer: u16 },
+    Retired { peer: PeerId },
 }
 
 /// Supplies the lifecycle stage; receives the workers' events. The workers of a service share it. So its calls come from
@@ -65,15 +66,15 @@ pub trait Watch {
     fn tell(&self, event: Event)
         ensures { told self.now event };
 
-    /// Gives the leg that the worker at this place of the plan took out. The event was reported right before.
-    fn retire(&self, worker: u16, leg: &Retired)
+    /// Gives the leg that a worker took out. The event was reported right before.
+    fn retire(&self, worker: WorkerId, leg: &Retired)
         ensures { given self.now (departure_of leg.now) };
 
     /// Reports that a worker's thread was refused. The other workers continue until they read `Ended`.
     fn no_thread(&self)
         ensures { lacks_thread self.now };
 
-    /// Wakes the worker at this place of the plan: another caller filled outboxes of its peers, so it may have datagrams to
-    /// send. It should wait no longer.
-    fn wake(&self, worker: u16);
+    /// Wakes a worker: another caller filled outboxes of its peers, so it may have datagrams to send. It should wait no
+    /// longer.
+    fn wake(&self, worker: WorkerId);
 }

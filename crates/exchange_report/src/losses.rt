@@ -4,6 +4,7 @@ ghost use Rattle.exchange_report.specs.Losses.{frames_of};
 
 use exchange_core::{Exchange, NoGate, Pass};
 use peer_lock::{LedgerSet, Losses};
+use peer_plan::PeerId;
 use std::sync::Wait;
 
 /// The losses on the way to a peer, because too much waited, since the exchange was opened.
@@ -25,12 +26,12 @@ impl PeerLosses {
     }
 }
 
-/// Returns the losses on the way to the peer at this place of the plan.
+/// Returns the losses on the way to a peer of the plan.
 pub fn losses_of<J: LedgerSet, R: Wait>(
     rt: &R,
     exchange: &Exchange<NoGate, J>,
     pass: &mut Pass<J>,
-    peer: u16,
+    peer: PeerId,
 ) -> PeerLosses
     requires { peer < length exchange.now.peers }
     ensures { pass.new ≡ pass.old }

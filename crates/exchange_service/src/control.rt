@@ -8,6 +8,7 @@ use control_server::{Clients, Door, NotBound};
 use exchange_report::{count_legs, losses_of};
 use log::{Log, warn};
 use peer_lock::LedgerSet;
+use peer_plan::PeerId;
 use service_api::{ApiHandler, Drain, answer_scrape};
 use service_log::LogState;
 use service_state::SocketTable;
@@ -169,7 +170,8 @@ impl<'s> Control<'s> {
         let (rt, exchange) = (log.rt(), desk.exchange);
         let tells_losses = told.tells_losses(now);
         let tells_reach = told.tells_reach(now);
-        for peer in 0..exchange.plan().peer_count() {
+        for place in 0..exchange.plan().peer_count() {
+            let peer = PeerId::new(place);
             if told.see_peer(log, peer, now) {
                 told.note_legs(peer, count_legs(rt, exchange, &mut desk.pass, peer));
             }

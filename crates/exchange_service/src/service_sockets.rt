@@ -2,6 +2,7 @@
 //! larger, and each worker has a waker.
 use libc::net as system;
 use log::{Log, info, warn};
+use peer_plan::WorkerId;
 use service_state::ServiceWatch;
 use std::os::fd::RawFd;
 use udp_wires::WireWaker;
@@ -45,8 +46,8 @@ impl<'l, L: Log> Sockets for ServiceSockets<'l, L> {
         true
     }
 
-    fn set_up(&self, place: u16, descriptor: RawFd, room: u32) -> Option<u64> {
-        let given = room_of(descriptor, room);
+    fn set_up(&self, worker: WorkerId, descriptor: RawFd, room: u32) -> Option<u64> {
+        let (place, given) = (worker.get(), room_of(descriptor, room));
         if let Some(octets) = given {
             info!(self.log; "worker {place} has room for {octets} octets of datagrams that wait");
         }
@@ -61,9 +62,10 @@ impl<'l, L: Log> Sockets for ServiceSockets<'l, L> {
         true
     }
 
-    fn keep_waker(&self, place: u16, waker: Option<WireWaker>) {
+    fn keep_waker(&self, worker: WorkerId, waker: Option<WireWaker>) {
+        let place = worker.get();
         match waker {
-            Some(waker) => self.watch.keep_waker(place, waker),
+            Some(waker) => self.watch.keep_waker(worker, waker),
             None =>
                 warn!(self.log; "worker {place} isn't woken by others: the system gives no eventfd"),
         }

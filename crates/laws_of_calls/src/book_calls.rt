@@ -7,12 +7,12 @@ ghost use Rattle.call_control.specs.declared.reply.Reply.TheVariants as replies;
 ghost use Rattle.laws_of_calls.specs.PeerCalls.{leases_in};
 ghost use Rattle.laws_of_calls.specs.StoredSteps.{after_bridge, after_release, release_answer, leases_after};
 
-use call_book::{CallBook, Lease, LegName};
+use call_book::{CallBook, Lease, LegName, PeerId};
 use call_control::Reply;
 
 /// Reserves a new name of a peer in the book. Returns its lease if it succeeds. The answer has the refusals of
 /// `CallBook::reserve`.
-pub fn reserve(book: &mut CallBook, peer: u16) -> (Reply, Option<Lease>)
+pub fn reserve(book: &mut CallBook, peer: PeerId) -> (Reply, Option<Lease>)
     ensures book { book.new ≡ after_reserve book.old peer }
     ensures answer { result.0 ≡ replies.Reserve (reserve_answer book.old peer) }
     ensures leases { leases_in result.1 ≡ leases_after (needs.Reserve peer) result.0 [] }

@@ -17,7 +17,9 @@ mod reading;
 mod route;
 mod routes;
 mod short_text;
+mod worker_id;
 
+pub use call_book::PeerId;
 pub use drawn::Drawn;
 pub use endpoint::Endpoint;
 pub use error::PlanError;
@@ -27,3 +29,4 @@ pub use key_name::KeyName;
 pub use laws::longest_prefixes_lead;
 pub use number_range::NumberRange;
 pub use plan::Plan;
+pub use worker_id::WorkerId;

@@ -5,6 +5,7 @@ ghost use Rattle.peer_plan.specs.Plan.{with_drawn, with_key};
 use crate::drawn::Drawn;
 use crate::endpoint::Endpoint;
 use crate::short_text::ShortText;
+use crate::worker_id::WorkerId;
 use call_auth::CallTokens;
 use call_signals::{Credential, Formats, PeerRules};
 
@@ -13,8 +14,8 @@ use call_signals::{Credential, Formats, PeerRules};
 pub(crate) struct Peer {
     pub(crate) name: ShortText,
     pub(crate) endpoint: Endpoint,
-    // The place of the worker that serves it.
-    pub(crate) worker: u16,
+    // The worker that serves it.
+    pub(crate) worker: WorkerId,
     pub(crate) rules: PeerRules,
     // The count of its call numbers: 1 ..= 512.
     pub(crate) numbers: u16,

@@ -14,7 +14,9 @@ use crate::number_range::NumberRange;
 use crate::peer::Peer;
 use crate::reading;
 use crate::routes::Routes;
+use crate::worker_id::WorkerId;
 use call_auth::{CallTokens, Challenge};
+use call_book::PeerId;
 use call_signals::PeerRules;
 use std::alloc::{AllocError, Global};
 use std::marker::Model;
@@ -156,11 +158,11 @@ impl Plan {
     }
 
     /// Returns the source of a peer's call tokens, if it needs them.
-    pub fn call_tokens(&self, peer: u16) -> Option<CallTokens>
+    pub fn call_tokens(&self, peer: PeerId) -> Option<CallTokens>
         requires { peer < length self.now.peers }
         ensures { option_map (λ peer. peer.rules.call_tokens) (slice_get self.now.peers peer) ≡ Some result }
     {
-        self.peers[usize::from(peer)].rules.call_tokens
+        self.peers[peer.index()].rules.call_tokens
     }
 
     /// Returns the number of peers, 1 to 32.
@@ -186,8 +188,8 @@ impl Plan {
         self.routes.get(route).prefix.as_str()
     }
 
-    /// Returns the place of the peer for whose calls a route is, or `None` if it is for all.
-    pub fn source(&self, route: usize) -> Option<u16>
+    /// Returns the peer for whose calls a route is, or `None` if it is for all.
+    pub fn source(&self, route: usize) -> Option<PeerId>
         requires { route < length self.now.routes }
         ensures value { option_map (λ route. route.source) (slice_get self.now.routes route) ≡ Some result }
         ensures place { IfSome result (λ source. source < length self.now.peers) }
@@ -197,14 +199,14 @@ impl Plan {
 
     /// Whether a route has this prefix, and this peer as its source; with none, whether a route for the calls of all has it.
     /// Takes the time of a binary search of the routes.
-    pub fn has_route(&self, prefix: &str, source: Option<u16>) -> bool
+    pub fn has_route(&self, prefix: &str, source: Option<PeerId>) -> bool
         ensures { result ≡ has_way prefix.now source self.now.routes }
     {
         self.routes.has(prefix.as_bytes(), source)
     }
 
-    /// Returns the place of the peer to which a route leads.
-    pub fn target(&self, route: usize) -> u16
+    /// Returns the peer to which a route leads.
+    pub fn target(&self, route: usize) -> PeerId
         requires { route < length self.now.routes }
         ensures value { option_map (λ route. route.peer) (slice_get self.now.routes route) ≡ Some result }
         ensures place { result < length self.now.peers }
@@ -229,13 +231,13 @@ impl Plan {
     }
 
     /// Returns the numbers of a peer, which follow those of the peers before it. Reads each of these.
-    pub fn range(&self, peer: u16) -> NumberRange
+    pub fn range(&self, peer: PeerId) -> NumberRange
         requires { peer < length self.now.peers }
         ensures value { result ≡ range_of (counts_of self.now.peers) peer }
         ensures least { 1 ≤ result.first }
         ensures most { result.first + result.count ≤ 32 * 512 + 1 }
     {
-        let (before, rest) = self.counts.split_at(usize::from(peer));
+        let (before, rest) = self.counts.split_at(peer.index());
         NumberRange {
             first: 1 + total(before),
             count: rest[0],
@@ -243,61 +245,74 @@ impl Plan {
     }
 
     /// Returns the name of a peer: 1 to 32 ASCII letters, digits and dashes.
-    pub fn name(&self, peer: u16) -> &str
+    pub fn name(&self, peer: PeerId) -> &str
         requires { peer < length self.now.peers }
         ensures { option_map (λ peer. peer.name) (slice_get self.now.peers peer) ≡ Some result.now }
     {
-        self.peers[usize::from(peer)].name.as_str()
+        self.peers[peer.index()].name.as_str()
     }
 
     /// Returns the IPv4 address and the UDP port of a peer.
-    pub fn endpoint(&self, peer: u16) -> Endpoint
+    pub fn endpoint(&self, peer: PeerId) -> Endpoint
         requires { peer < length self.now.peers }
         ensures { option_map (λ peer. peer.endpoint) (slice_get self.now.peers peer) ≡ Some result }
     {
-        self.peers[usize::from(peer)].endpoint
+        self.peers[peer.index()].endpoint
     }
 
-    /// Returns the place of the worker that serves a peer, from 0 on.
-    pub fn worker(&self, peer: u16) -> u16
+    /// Returns the worker that serves a peer.
+    pub fn worker(&self, peer: PeerId) -> WorkerId
         requires { peer < length self.now.peers }
         ensures value { option_map (λ peer. peer.worker) (slice_get self.now.peers peer) ≡ Some result }
         ensures place { result < length self.now.workers }
     {
-        self.peers[usize::from(peer)].worker
+        self.peers[peer.index()].worker
     }
 
     /// Returns the rules that the plan gives the legs of a peer.
-    pub fn rules(&self, peer: u16) -> &PeerRules
+    pub fn rules(&self, peer: PeerId) -> &PeerRules
         requires { peer < length self.now.peers }
         ensures value { option_map (λ peer. peer.rules) (slice_get self.now.peers peer) ≡ Some result.now }
         ensures sound { IsPeerRules result.now }
     {
-        &self.peers[usize::from(peer)].rules
+        &self.peers[peer.index()].rules
     }
 
-    /// Returns the place of the peer at an endpoint, or `None` if no peer has it. Reads the endpoint of each peer.
-    pub fn peer_of(&self, endpoint: Endpoint) -> Option<u16>
+    /// Returns the peer at an endpoint, or `None` if no peer has it. Reads the endpoint of each peer.
+    pub fn peer_at(&self, endpoint: Endpoint) -> Option<PeerId>
         ensures found { IfSome result (λ peer. option_map (λ peer. peer.endpoint) (slice_get self.now.peers peer) ≡
             Some endpoint) }
         ensures none { IfNone result (All (λ peer. peer.endpoint ≢ endpoint) self.now.peers) }
         ensures place { IfSome result (λ peer. peer < length self.now.peers) }
     {
         let place = place_of(&self.endpoints, endpoint)?;
-        Some(place as u16)
+        Some(PeerId::new(place as u16))
+    }
+
+    /// Returns the place of the peer at an endpoint, as `peer_at` does, or `None` if no peer has it.
+    pub fn peer_of(&self, endpoint: Endpoint) -> Option<u16>
+        ensures found { IfSome result (λ peer. option_map (λ peer. peer.endpoint) (slice_get self.now.peers peer) ≡
+            Some endpoint) }
+        ensures none { IfNone result (All (λ peer. peer.endpoint ≢ endpoint) self.now.peers) }
+        ensures place { IfSome result (λ peer. peer < length self.now.peers) }
+    {
+        match self.peer_at(endpoint) {
+            Some(peer) => Some(peer.get()),
+            None => None,
+        }
     }
 
     /// Returns the peer to which a call of a peer is routed. The longest prefix of the called number decides, among the
     /// routes for all and those for this caller. Of two prefixes of one length the caller's own leads. Returns `None` if no
     /// such route has a prefix of the number. Makes two binary searches for each length of a prefix, and takes no memory.
-    pub fn route(&self, caller: u16, number: &[u8]) -> Option<u16>
+    pub fn route(&self, caller: PeerId, number: &[u8]) -> Option<u16>
         ensures found { IfSome result (λ peer. (route : Route) × IsNearest self.now.routes caller number.now route ×
             (route.peer ≡ peer)) }
         ensures none { IfNone result (All (λ route. fits caller number.now route ≡ false) self.now.routes) }
         ensures place { IfSome result (λ peer. peer < length self.now.peers) }
     {
         let route = self.routes.nearest(caller, number)?;
-        Some(route.peer)
+        Some(route.peer.get())
     }
 }
 

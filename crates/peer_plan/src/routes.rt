@@ -6,6 +6,7 @@ ghost use Rattle.peer_plan.specs.Reading.{has_way, has_same_way};
 ghost use Rattle.peer_plan.specs.RouteIndex.{way_at, way_cmp, IsIndex};
 
 use crate::route::Route;
+use call_book::PeerId;
 use std::alloc::{AllocError, Global};
 use std::cmp::Ordering;
 use std::marker::Model;
@@ -67,7 +68,7 @@ impl Routes {
     }
 
     // The route with this prefix and this source.
-    fn find(&self, prefix: &[u8], source: Option<u16>) -> Option<&Route>
+    fn find(&self, prefix: &[u8], source: Option<PeerId>) -> Option<&Route>
         ensures found { IfSome result (λ route. Contains self.now route.now × (route.now.prefix ≡ prefix.now) ×
             (route.now.source ≡ source)) }
         ensures none { IfNone result (All (λ route. route.prefix ≡ prefix.now → route.source ≢ source) self.now) }
@@ -77,14 +78,14 @@ impl Routes {
     }
 
     // Whether a route has this prefix and this source.
-    pub(crate) fn has(&self, prefix: &[u8], source: Option<u16>) -> bool
+    pub(crate) fn has(&self, prefix: &[u8], source: Option<PeerId>) -> bool
         ensures { result ≡ has_way prefix.now source self.now }
     {
         self.find(prefix, source).is_some()
     }
 
     // Of the routes with this prefix that a call of a peer may take, the one with a source, or else the other.
-    fn with_prefix(&self, prefix: &[u8], caller: u16) -> Option<&Route>
+    fn with_prefix(&self, prefix: &[u8], caller: PeerId) -> Option<&Route>
         ensures found { IfSome result (λ route. Contains self.now route.now × (route.now.prefix ≡ prefix.now) ×
             (is_open_to caller route.now ≡ true) ×
             All (λ other. other.prefix ≡ prefix.now → is_open_to caller other ≡ true →
@@ -98,7 +99,7 @@ impl Routes {
     }
 
     // Of the routes that a call may take, the one with the longest prefix, and of two of one length the one with a source.
-    pub(crate) fn nearest(&self, caller: u16, text: &[u8]) -> Option<&Route>
+    pub(crate) fn nearest(&self, caller: PeerId, text: &[u8]) -> Option<&Route>
         ensures found { IfSome result (λ route. IsNearest self.now caller text.now route.now) }
         ensures none { IfNone result (All (λ route. fits caller text.now route ≡ false) self.now) }
     {
@@ -116,7 +117,7 @@ impl Routes {
 }
 
 // The prefix and the source of the route at a place.
-fn way_at(routes: &[Route], place: usize) -> (&[u8], Option<u16>)
+fn way_at(routes: &[Route], place: usize) -> (&[u8], Option<PeerId>)
     ensures prefix { result.0.now ≡ (way_at routes.now place).0 }
     ensures source { result.1 ≡ (way_at routes.now place).1 }
 {
@@ -127,7 +128,7 @@ fn way_at(routes: &[Route], place: usize) -> (&[u8], Option<u16>)
 }
 
 // How the route at a place is ordered to a prefix and a source.
-fn compare(routes: &[Route], place: usize, prefix: &[u8], source: Option<u16>) -> Ordering
+fn compare(routes: &[Route], place: usize, prefix: &[u8], source: Option<PeerId>) -> Ordering
     ensures { result ≡ way_cmp (way_at routes.now place) (prefix.now, source) }
 {
     way_at(routes, place).cmp(&(prefix, source))
@@ -162,7 +163,12 @@ fn longest(routes: &[Route]) -> usize
 }
 
 // The place of the route with a prefix and a source.
-fn place_of(routes: &[Route], index: &[usize], prefix: &[u8], source: Option<u16>) -> Option<usize>
+fn place_of(
+    routes: &[Route],
+    index: &[usize],
+    prefix: &[u8],
+    source: Option<PeerId>,
+) -> Option<usize>
     requires { IsIndex routes.now index.now }
     ensures found { IfSome result (λ place. (place < length routes.now) × (way_at routes.now place ≡ (prefix.now, source))) }
     ensures none { IfNone result ((place : ℕ) → place < length routes.now → way_at routes.now place ≢ (prefix.now, source)) }

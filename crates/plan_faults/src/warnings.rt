@@ -7,7 +7,7 @@ use crate::tables::version_of;
 use crate::walk::{Entry, EntryKind, Walk};
 use crate::ways::{Way, prefix_count, ways_of};
 use call_signals::{Format, Formats};
-use peer_plan::{Key, Plan, Section};
+use peer_plan::{Key, PeerId, Plan, Section};
 use plan_report::minutes_of_talk;
 use std::alloc::Global;
 use toml::Table;
@@ -29,7 +29,7 @@ pub(crate) struct Warnings<'t> {
 }
 
 // Returns the secret of a peer.
-fn secret_of(plan: &Plan, peer: u16) -> Option<&[u8]>
+fn secret_of(plan: &Plan, peer: PeerId) -> Option<&[u8]>
     requires { peer < length plan.now.peers }
 {
     match &plan.rules(peer).secret {
@@ -39,11 +39,12 @@ fn secret_of(plan: &Plan, peer: u16) -> Option<&[u8]>
 }
 
 // Returns the first peer before one that has its secret.
-fn same_secret(plan: &Plan, peer: u16) -> Option<u16>
+fn same_secret(plan: &Plan, peer: PeerId) -> Option<PeerId>
     requires { peer < length plan.now.peers }
 {
     let secret = secret_of(plan, peer)?;
-    for other in 0..peer {
+    for place in 0..peer.get() {
+        let other = PeerId::new(place);
         if secret_of(plan, other) == Some(secret) {
             return Some(other);
         }
@@ -53,8 +54,8 @@ fn same_secret(plan: &Plan, peer: u16) -> Option<u16>
 
 /// Returns whether a peer has a secret.
 pub(crate) fn has_secret(plan: &Plan) -> bool {
-    for peer in 0..plan.peer_count() {
-        let rules = plan.rules(peer);
+    for place in 0..plan.peer_count() {
+        let rules = plan.rules(PeerId::new(place));
         if rules.secret.is_some() || rules.outbound_secret.is_some() {
             return true;
         }
@@ -62,7 +63,7 @@ pub(crate) fn has_secret(plan: &Plan) -> bool {
     false
 }
 
-fn is_led_to(plan: &Plan, peer: u16) -> bool {
+fn is_led_to(plan: &Plan, peer: PeerId) -> bool {
     for route in 0..plan.route_count() {
         if plan.target(route) == peer {
             return true;
@@ -89,12 +90,13 @@ fn have_common_format(formats: Formats, others: Formats) -> bool {
 }
 
 // Returns the first caller that has no format in common with the peer to which a route leads.
-fn caller_without_format(plan: &Plan, route: usize) -> Option<u16>
+fn caller_without_format(plan: &Plan, route: usize) -> Option<PeerId>
     requires { route < length plan.now.routes }
 {
     let target = plan.target(route);
     let formats = plan.rules(target).formats;
-    for caller in 0..plan.peer_count() {
+    for place in 0..plan.peer_count() {
+        let caller = PeerId::new(place);
         let is_open = match plan.source(route) {
             Some(source) => source == caller,
             None => true,
@@ -165,7 +167,7 @@ impl<'t> Warnings<'t> {
         }
     }
 
-    fn warn_of_secret(&mut self, entry: Entry<'t>, plan: &Plan, peer: u16, key: Key)
+    fn warn_of_secret(&mut self, entry: Entry<'t>, plan: &Plan, peer: PeerId, key: Key)
         requires { peer < length plan.now.peers }
     {
         let rules = plan.rules(peer);
@@ -181,15 +183,15 @@ impl<'t> Warnings<'t> {
         }
     }
 
-    fn warn_of_same_secret(&mut self, entry: Entry<'t>, plan: &Plan, peer: u16)
+    fn warn_of_same_secret(&mut self, entry: Entry<'t>, plan: &Plan, peer: PeerId)
         requires { peer < length plan.now.peers }
     {
         if let Some(other) = same_secret(plan, peer) {
-            self.warn(entry, Hint::SameSecret(other));
+            self.warn(entry, Hint::SameSecret(other.get()));
         }
     }
 
-    fn warn_of_peer(&mut self, entry: Entry<'t>, peer: u16) {
+    fn warn_of_peer(&mut self, entry: Entry<'t>, peer: PeerId) {
         if !is_led_to(self.plan, peer) {
             self.warn(entry, Hint::NotLedTo);
         }
@@ -210,19 +212,20 @@ impl<'t> Warnings<'t> {
             return self.warn(entry, Hint::Unused);
         }
         if let Some(caller) = caller_without_format(plan, route) {
-            self.warn(entry, Hint::NoCommonFormat(caller));
+            self.warn(entry, Hint::NoCommonFormat(caller.get()));
         }
     }
 
     // Warns of a key of a peer.
     fn warn_of_peer_key(&mut self, entry: Entry<'t>, key: Key) {
-        let Ok(peer) = u16::try_from(entry.place) else {
+        let Ok(place) = u16::try_from(entry.place) else {
             return;
         };
         let plan = self.plan;
-        if peer >= plan.peer_count() {
+        if place >= plan.peer_count() {
             return;
         }
+        let peer = PeerId::new(place);
         match key {
             Key::Secret => {
                 self.warn_of_secret(entry, plan, peer, key);

@@ -3,7 +3,7 @@ ghost use Rattle.std.specs.Prelude.{◌<◌, length};
 ghost use Rattle.call_signals.specs.PeerRules.{IsPeerRules};
 
 use call_signals::{Format, PeerRules};
-use peer_plan::{Endpoint, Key, Plan, format_name};
+use peer_plan::{Endpoint, Key, PeerId, Plan, format_name};
 use plain_text::TextBuffer;
 use toml::{Table, Value};
 
@@ -67,7 +67,7 @@ pub(crate) fn limits_of(plan: &Plan) -> &PeerRules
 {
     // For the prover: a plan has a peer.
     let _count = plan.peer_count();
-    plan.rules(0)
+    plan.rules(PeerId::new(0))
 }
 
 // Writes the limits that all peers have, and the number of passes. Only plan version 4 has keys for the data of a record,
@@ -169,7 +169,7 @@ fn write_media(rules: &PeerRules, table: &Table, report: &mut TextBuffer) {
     write_flag(table, Key::TrunkTimestamps, rules.trunk_timestamps, report);
 }
 
-fn write_numbers(plan: &Plan, peer: u16, table: &Table, report: &mut TextBuffer)
+fn write_numbers(plan: &Plan, peer: PeerId, table: &Table, report: &mut TextBuffer)
     requires { peer < length plan.now.peers }
 {
     let range = plan.range(peer);
@@ -193,7 +193,7 @@ fn write_target(endpoint: Endpoint, report: &mut TextBuffer) {
     }
 }
 
-fn write_peer(plan: &Plan, peer: u16, table: &Table, format: u64, report: &mut TextBuffer)
+fn write_peer(plan: &Plan, peer: PeerId, table: &Table, format: u64, report: &mut TextBuffer)
     requires { peer < length plan.now.peers }
 {
     report.text("peer ");
@@ -201,8 +201,8 @@ fn write_peer(plan: &Plan, peer: u16, table: &Table, format: u64, report: &mut T
     report.text(": ");
     write_endpoint(plan.endpoint(peer), "\n  worker ", report);
     let worker = plan.worker(peer);
-    report.counted(u64::from(worker), ": it sends to ");
-    write_target(plan.workers()[usize::from(worker)], report);
+    report.counted(u64::from(worker.get()), ": it sends to ");
+    write_target(plan.workers()[worker.index()], report);
     let rules = plan.rules(peer);
     write_credentials(rules, table, format, report);
     write_media(rules, table, report);
@@ -238,8 +238,9 @@ pub(crate) fn write_values(plan: &Plan, table: &Table, report: &mut TextBuffer) 
     write_limits(plan, table, format, report);
     write_workers(plan, report);
     let tables = tables_of(table, Key::Peer);
-    for peer in 0..plan.peer_count() {
-        if let Some(Value::Table(table)) = tables.get(usize::from(peer)) {
+    for place in 0..plan.peer_count() {
+        let peer = PeerId::new(place);
+        if let Some(Value::Table(table)) = tables.get(peer.index()) {
             write_peer(plan, peer, table, format, report);
         }
     }

@@ -4,7 +4,7 @@ ghost use Rattle.call_signals.specs.Format.{has_format};
 ghost use Rattle.plan_report.specs.Warnings.{lacks};
 
 use call_signals::{Format, Formats};
-use peer_plan::{Plan, format_name};
+use peer_plan::{PeerId, Plan, format_name};
 use plain_text::TextBuffer;
 
 // Returns whether calls of one peer in a format are rejected by another.
@@ -14,7 +14,7 @@ fn lacks(caller: Formats, target: Formats, format: Format) -> bool
     caller.contains(format) && !target.contains(format)
 }
 
-fn warn_of_credentials(plan: &Plan, peer: u16, report: &mut TextBuffer)
+fn warn_of_credentials(plan: &Plan, peer: PeerId, report: &mut TextBuffer)
     requires { peer < length plan.now.peers }
 {
     let name = plan.name(peer);
@@ -68,9 +68,9 @@ fn targets_of(plan: &Plan) -> Targets {
     // (for the prover: a plan has at most 32 peers)
     let _count = plan.peer_count();
     for route in 0..plan.route_count() {
-        let target = usize::from(plan.target(route));
+        let target = plan.target(route).index();
         match plan.source(route) {
-            Some(source) => targets.for_one[target][usize::from(source)] = true,
+            Some(source) => targets.for_one[target][source.index()] = true,
             None => targets.for_all[target] = true,
         }
     }
@@ -78,15 +78,15 @@ fn targets_of(plan: &Plan) -> Targets {
 }
 
 // Whether a route leads calls of a peer to another, or back to it.
-fn reaches(targets: &Targets, caller: u16, target: u16) -> bool
+fn reaches(targets: &Targets, caller: PeerId, target: PeerId) -> bool
     requires caller { caller < 32 }
     requires target { target < 32 }
 {
-    let target = usize::from(target);
-    targets.for_all[target] || targets.for_one[target][usize::from(caller)]
+    let target = target.index();
+    targets.for_all[target] || targets.for_one[target][caller.index()]
 }
 
-fn warn_of_formats(plan: &Plan, caller: u16, target: u16, report: &mut TextBuffer)
+fn warn_of_formats(plan: &Plan, caller: PeerId, target: PeerId, report: &mut TextBuffer)
     requires caller { caller < length plan.now.peers }
     requires target { target < length plan.now.peers }
 {
@@ -109,15 +109,16 @@ fn warn_of_formats(plan: &Plan, caller: u16, target: u16, report: &mut TextBuffe
 
 /// Writes a warning for each setting that may not be intended.
 pub(crate) fn write_warnings(plan: &Plan, report: &mut TextBuffer) {
-    for peer in 0..plan.peer_count() {
-        warn_of_credentials(plan, peer, report);
+    for place in 0..plan.peer_count() {
+        warn_of_credentials(plan, PeerId::new(place), report);
     }
     for route in 0..plan.route_count() {
         warn_of_return(plan, route, report);
     }
     let targets = targets_of(plan);
-    for target in 0..plan.peer_count() {
-        for caller in 0..plan.peer_count() {
+    for to in 0..plan.peer_count() {
+        for from in 0..plan.peer_count() {
+            let (caller, target) = (PeerId::new(from), PeerId::new(to));
             if reaches(&targets, caller, target) {
                 warn_of_formats(plan, caller, target, report);
             }

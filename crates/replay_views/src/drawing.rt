@@ -9,7 +9,7 @@ use exchange_commands::{
 };
 use exchange_report::{refusal_name, stage_name};
 use leg_machine::Stage;
-use peer_plan::Plan;
+use peer_plan::{PeerId, Plan};
 use std::alloc::Global;
 use std::io;
 use std::io::Write;
@@ -35,9 +35,9 @@ impl LadderViewer {
     // Adds the peers of a plan.
     fn peers(&mut self, plan: &Plan) -> io::Result<()> {
         for place in 0..plan.peer_count() {
-            let range = plan.range(place);
-            self.ladder
-                .peer(plan.name(place), range.first, range.count)?;
+            let peer = PeerId::new(place);
+            let range = plan.range(peer);
+            self.ladder.peer(plan.name(peer), range.first, range.count)?;
         }
         Ok(())
     }

@@ -4,7 +4,7 @@ use call_records::{CallNumbering, RowTexts, push_header, push_row};
 use exchange_commands::{ReplayError, ReplayFiles, Stop, Viewer, replay_with, tell_outcome};
 use exchange_core::Retired;
 use exchange_report::call_row;
-use peer_plan::Plan;
+use peer_plan::{PeerId, Plan};
 use std::alloc::{AllocError, Global};
 use std::io::Write;
 use std::sync::Wait;
@@ -51,7 +51,8 @@ impl RecordViewer {
 impl Viewer for RecordViewer {
     fn opened(&mut self, plan: &Plan) -> Result<(), Stop> {
         self.calls = CallNumbering::new(self.alloc, plan.number_count(), 0)?;
-        for peer in 0..plan.peer_count() {
+        for place in 0..plan.peer_count() {
+            let peer = PeerId::new(place);
             let name = String::from_str(self.alloc, plan.name(peer))?;
             if self.peers.push(name).is_err() {
                 return Err(Stop::Memory);

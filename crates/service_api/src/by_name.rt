@@ -2,7 +2,7 @@
 use crate::scraping::{Told, push_family};
 use exchange_core::Rejection;
 use exchange_report::{refusal_name, rejection_name};
-use peer_plan::Plan;
+use peer_plan::{PeerId, Plan};
 use service_state::{
     AUTH_FAILURES, Kind, Label, Labels, Metrics, REASONS, REFUSALS, REJECTIONS, Sample,
     ServiceWatch,
@@ -62,7 +62,8 @@ pub(crate) fn push_refusals(
     watch: &ServiceWatch,
 ) -> Result<(), AllocError> {
     let mut samples = Vec::new(alloc);
-    for peer in 0..plan.peer_count() {
+    for place in 0..plan.peer_count() {
+        let peer = PeerId::new(place);
         let name = plan.name(peer);
         for refusal in &REFUSALS {
             let count = watch.refused_for(peer, *refusal);
@@ -86,7 +87,8 @@ pub(crate) fn push_rejections(
     watch: &ServiceWatch,
 ) -> Result<(), AllocError> {
     let mut samples = Vec::new(alloc);
-    for peer in 0..plan.peer_count() {
+    for place in 0..plan.peer_count() {
+        let peer = PeerId::new(place);
         let (name, is_hardened) = (plan.name(peer), plan.rules(peer).is_hardened);
         for rejection in &REJECTIONS {
             if is_hardened || is_of_all_formats(*rejection) {
@@ -107,7 +109,8 @@ pub(crate) fn push_failures(
     watch: &ServiceWatch,
 ) -> Result<(), AllocError> {
     let mut samples = Vec::new(alloc);
-    for peer in 0..plan.peer_count() {
+    for place in 0..plan.peer_count() {
+        let peer = PeerId::new(place);
         let name = plan.name(peer);
         for failure in &AUTH_FAILURES {
             let count = watch.unauthenticated(peer, *failure);
@@ -125,7 +128,8 @@ pub(crate) fn push_failed_calls(
     watch: &ServiceWatch,
 ) -> Result<(), AllocError> {
     let mut samples = Vec::new(alloc);
-    for peer in 0..plan.peer_count() {
+    for place in 0..plan.peer_count() {
+        let peer = PeerId::new(place);
         let name = plan.name(peer);
         for reason in &REASONS {
             let count = watch.failed(peer, reason);

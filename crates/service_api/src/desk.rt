@@ -11,7 +11,7 @@ use control_requests::{
 use exchange_core::{CallError, Exchange, NoGate, Pass};
 use exchange_report::{PeerLosses, call_error_name, count_legs, losses_of, peer_named};
 use peer_lock::{LedgerSet, Pokes};
-use peer_plan::{Endpoint, Plan};
+use peer_plan::{Endpoint, PeerId, Plan};
 use service_state::{AUTH_FAILURES, ServiceWatch, reach_of};
 use std::alloc::{AllocError, Global};
 use std::sync::Wait;
@@ -37,7 +37,8 @@ impl<'x, J: LedgerSet> ApiHandler<'x, J> {
     /// Returns the number of legs, including those that are already ending.
     pub fn hang_up_all<R: Wait>(&mut self, rt: &R, now: u64) -> u32 {
         let mut legs: u32 = 0;
-        for peer in 0..self.exchange.plan().peer_count() {
+        for place in 0..self.exchange.plan().peer_count() {
+            let peer = PeerId::new(place);
             legs = legs.saturating_add(self.hang_up_peer(rt, peer, now));
         }
         legs
@@ -108,7 +109,8 @@ impl<'x, J: LedgerSet> ApiHandler<'x, J> {
             lane.begin_drain(rt, now, drains);
         }
         let exchange = self.exchange;
-        for peer in 0..exchange.plan().peer_count() {
+        for place in 0..exchange.plan().peer_count() {
+            let peer = PeerId::new(place);
             exchange.set_draining(rt, &mut self.pass, peer, drains);
         }
         if let Some(lane) = &mut self.lane {
@@ -120,7 +122,8 @@ impl<'x, J: LedgerSet> ApiHandler<'x, J> {
     pub(crate) fn leg_count<R: Wait>(&mut self, rt: &R) -> u32 {
         let exchange = self.exchange;
         let mut legs: u32 = 0;
-        for peer in 0..exchange.plan().peer_count() {
+        for place in 0..exchange.plan().peer_count() {
+            let peer = PeerId::new(place);
             let count = count_legs(rt, exchange, &mut self.pass, peer);
             legs = legs.saturating_add(u32::from(count));
         }
@@ -167,7 +170,8 @@ impl<'x, J: LedgerSet> ApiHandler<'x, J> {
         now: u64,
     ) -> Result<(), AllocError> {
         let (exchange, watch) = (self.exchange, self.watch);
-        for peer in 0..exchange.plan().peer_count() {
+        for place in 0..exchange.plan().peer_count() {
+            let peer = PeerId::new(place);
             let counted = Counted {
                 legs: count_legs(rt, exchange, &mut self.pass, peer),
                 losses: losses_of(rt, exchange, &mut self.pass, peer),
@@ -182,7 +186,8 @@ impl<'x, J: LedgerSet> ApiHandler<'x, J> {
     fn calls<R: Wait>(&mut self, rt: &R, alloc: Global, now: u64) -> Result<Response, AllocError> {
         let exchange = self.exchange;
         let mut rows = Rows::new(alloc);
-        for peer in 0..exchange.plan().peer_count() {
+        for place in 0..exchange.plan().peer_count() {
+            let peer = PeerId::new(place);
             push_calls(rt, alloc, exchange, &mut self.pass, &mut rows, peer, now)?;
         }
         shown(rows.into_calls(alloc))
@@ -216,7 +221,8 @@ impl<'x, J: LedgerSet> ApiHandler<'x, J> {
             quelched: 0,
         };
         let exchange = self.exchange;
-        for peer in 0..exchange.plan().peer_count() {
+        for place in 0..exchange.plan().peer_count() {
+            let peer = PeerId::new(place);
             let sums = exchange.sums(rt, &mut self.pass, peer);
             row.accepted = row.accepted.wrapping_add(sums.accepted);
             row.packed = row.packed.wrapping_add(sums.packed);
@@ -342,7 +348,7 @@ struct Counted {
 }
 
 // Returns the number of the peer's calls that failed to authenticate, modulo 2^64.
-fn unauthenticated(watch: &ServiceWatch, peer: u16) -> u64 {
+fn unauthenticated(watch: &ServiceWatch, peer: PeerId) -> u64 {
     let mut count: u64 = 0;
     for failure in &AUTH_FAILURES {
         count = count.wrapping_add(watch.unauthenticated(peer, *failure));
@@ -356,7 +362,7 @@ fn push_peer(
     rows: &mut Rows,
     plan: &Plan,
     watch: &ServiceWatch,
-    peer: u16,
+    peer: PeerId,
     counted: Counted,
     now: u64,
 ) -> Result<(), AllocError>
@@ -373,7 +379,7 @@ fn push_peer(
         PeerRow {
             name: plan.name(peer),
             endpoint: &endpoint,
-            worker: plan.worker(peer),
+            worker: plan.worker(peer).get(),
             legs: counted.legs,
             numbers: plan.range(peer).count,
             silent_ms: marks.heard.map(|heard| now.saturating_sub(heard)),

@@ -7,6 +7,7 @@ use exchange_core::{Event, Exchange, NoGate, Pass, Retired, Watch};
 use exchange_report::{count_legs, order_error_name};
 use leg_machine::Stage;
 use peer_lock::{LedgerSet, Status};
+use peer_plan::PeerId;
 use service_state::ServiceWatch;
 use std::sync::Wait;
 
@@ -20,12 +21,12 @@ fn is_open(stage: Stage) -> bool {
 
 // Reports the legs that an order of a client took out. Its place in the trace is behind the workers.
 fn tell_retired(watch: &ServiceWatch, workers: usize, legs: &[Retired]) {
-    let place = u16::try_from(workers).unwrap_or(u16::MAX);
+    let thread = u16::try_from(workers).unwrap_or(u16::MAX);
     for leg in legs {
         watch.tell(Event::Retired {
-            peer: leg.name.peer,
+            peer: leg.name.owner(),
         });
-        watch.retire(place, leg);
+        watch.note_retired(thread, leg);
     }
 }
 
@@ -34,7 +35,7 @@ fn status_from<J: LedgerSet, R: Wait>(
     rt: &R,
     exchange: &Exchange<NoGate, J>,
     pass: &mut Pass<J>,
-    peer: u16,
+    peer: PeerId,
     number: u16,
 ) -> Option<Status>
     requires { peer < length exchange.now.peers }
@@ -73,10 +74,10 @@ impl<'x, J: LedgerSet> ApiHandler<'x, J> {
         }
     }
 
-    /// Hangs up the legs of the peer at this place of the plan that are still up. Returns the number of its legs.
-    pub(crate) fn hang_up_peer<R: Wait>(&mut self, rt: &R, peer: u16, now: u64) -> u32 {
+    /// Hangs up the legs of a peer that are still up. Returns the number of its legs.
+    pub(crate) fn hang_up_peer<R: Wait>(&mut self, rt: &R, peer: PeerId, now: u64) -> u32 {
         let exchange = self.exchange;
-        if peer >= exchange.plan().peer_count() {
+        if peer.get() >= exchange.plan().peer_count() {
             return 0;
         }
         let range = exchange.plan().range(peer);
@@ -105,7 +106,8 @@ fn is_at_rest<J: LedgerSet, R: Wait>(
     exchange: &Exchange<NoGate, J>,
     pass: &mut Pass<J>,
 ) -> bool {
-    for peer in 0..exchange.plan().peer_count() {
+    for place in 0..exchange.plan().peer_count() {
+        let peer = PeerId::new(place);
         if count_legs(rt, exchange, pass, peer) > 0 || exchange.sums(rt, pass, peer).queued > 0 {
             return false;
         }
@@ -126,14 +128,13 @@ pub(crate) fn serial_at_rest<J: LedgerSet, R: Wait>(
     }
 }
 
-/// Returns the leg with a local number, and the place in the plan of the peer that has the number. Takes that peer's lock
-/// once.
+/// Returns the leg with a local number, and the peer that has the number. Takes that peer's lock once.
 pub(crate) fn find_leg<J: LedgerSet, R: Wait>(
     rt: &R,
     exchange: &Exchange<NoGate, J>,
     pass: &mut Pass<J>,
     number: u16,
-) -> Option<(u16, LegName)>
+) -> Option<(PeerId, LegName)>
     ensures { IfSome result (λ found. found.0 < length exchange.now.peers) }
 {
     let peer = exchange.plan().owner_of(number)?;

@@ -3,6 +3,7 @@ use crate::scraping::{Told, push_family};
 use exchange_core::{Exchange, NoGate, Pass};
 use exchange_report::{PeerLosses, losses_of};
 use peer_lock::{LedgerSet, Losses};
+use peer_plan::PeerId;
 use service_state::{Kind, Label, Labels, Metrics, Sample};
 use std::alloc::{AllocError, Global};
 use std::sync::Wait;
@@ -45,7 +46,8 @@ pub(crate) fn push_losses<J: LedgerSet, R: Wait>(
 ) -> Result<(), AllocError> {
     let plan = exchange.plan();
     let mut samples = Vec::new(alloc);
-    for peer in 0..plan.peer_count() {
+    for place in 0..plan.peer_count() {
+        let peer = PeerId::new(place);
         let losses = losses_of(rt, exchange, pass, peer);
         push_losses_of(&mut samples, losses, plan.name(peer))?;
     }

@@ -8,7 +8,7 @@ use control_requests::{Methods, Request, Response, StatusCode};
 use exchange_core::{Exchange, NoGate, Pass};
 use exchange_report::count_legs;
 use peer_lock::LedgerSet;
-use peer_plan::Plan;
+use peer_plan::{PeerId, Plan};
 use service_state::{
     DropCount, Family, Kind, Label, Labels, Metrics, PeerFigures, Sample, Scrape, ServiceWatch,
     SocketTable, drop_counts, reach_of, scrape_of,
@@ -93,7 +93,7 @@ fn figures_of<'x, J: LedgerSet, R: Wait>(
     exchange: &'x Exchange<NoGate, J>,
     pass: &mut Pass<J>,
     watch: &ServiceWatch,
-    peer: u16,
+    peer: PeerId,
     now: u64,
 ) -> PeerFigures<'x>
     requires { peer < length exchange.now.peers }
@@ -153,7 +153,8 @@ fn push_peers<J: LedgerSet, R: Wait>(
     now: u64,
 ) -> Result<(), AllocError> {
     let mut peers = Vec::new(alloc);
-    for peer in 0..exchange.plan().peer_count() {
+    for place in 0..exchange.plan().peer_count() {
+        let peer = PeerId::new(place);
         peers.push(figures_of(rt, exchange, pass, watch, peer, now))?;
     }
     metrics.push_figures(alloc, &peers)

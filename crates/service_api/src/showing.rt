@@ -6,7 +6,7 @@ use exchange_core::{Exchange, NoGate, Pass};
 use exchange_report::stage_name;
 use leg_machine::ElementText;
 use peer_lock::{Description, LedgerSet};
-use peer_plan::{Plan, format_name};
+use peer_plan::{PeerId, Plan, format_name};
 use std::alloc::{AllocError, Global};
 use std::sync::Wait;
 
@@ -68,7 +68,7 @@ impl ShownLeg {
         alloc: Global,
         exchange: &Exchange<NoGate, J>,
         pass: &mut Pass<J>,
-        peer: u16,
+        peer: PeerId,
         number: u16,
     ) -> Result<Option<ShownLeg>, AllocError>
         requires { peer < length exchange.now.peers }
@@ -83,7 +83,7 @@ impl ShownLeg {
     }
 
     /// Returns the leg's row.
-    pub(crate) fn row<'a>(&'a self, plan: &'a Plan, peer: u16, now: u64) -> CallEntry<'a>
+    pub(crate) fn row<'a>(&'a self, plan: &'a Plan, peer: PeerId, now: u64) -> CallEntry<'a>
         requires { peer < length plan.now.peers }
     {
         let Description {
@@ -118,7 +118,7 @@ fn push_call<J: LedgerSet, R: Wait>(
     exchange: &Exchange<NoGate, J>,
     pass: &mut Pass<J>,
     rows: &mut Rows,
-    peer: u16,
+    peer: PeerId,
     leg: Description,
     now: u64,
 ) -> Result<(), AllocError>
@@ -138,7 +138,7 @@ pub(crate) fn push_calls<J: LedgerSet, R: Wait>(
     exchange: &Exchange<NoGate, J>,
     pass: &mut Pass<J>,
     rows: &mut Rows,
-    peer: u16,
+    peer: PeerId,
     now: u64,
 ) -> Result<(), AllocError>
     requires { peer < length exchange.now.peers }

@@ -114,8 +114,8 @@ pub(crate) fn tell_leg<L: Log>(
     level: Level,
     shown: ShownNumbers,
 ) {
-    let peer = leg.name.peer;
-    if peer >= plan.peer_count() {
+    let peer = leg.name.owner();
+    if peer.get() >= plan.peer_count() {
         return;
     }
     if let Ok(line) = line_of(alloc, leg, plan.name(peer), shown) {

@@ -3,14 +3,14 @@ ghost use Rattle.std.specs.Prelude.{◌<◌, length};
 
 use crate::lines::tell;
 use log::{Level, Log};
-use peer_plan::Plan;
+use peer_plan::{PeerId, Plan};
 use service_state::News;
 
 // A peer counts as silent after this number of its `ping_ms`.
 const PINGS: u64 = 3;
 
 // Returns the time for which a peer may be silent, in milliseconds. A peer that isn't pinged has no limit.
-pub(crate) fn silence_limit(plan: &Plan, peer: u16) -> u64
+pub(crate) fn silence_limit(plan: &Plan, peer: PeerId) -> u64
     requires { peer < length plan.now.peers }
 {
     match plan.rules(peer).ping_ms {

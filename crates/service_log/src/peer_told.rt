@@ -3,7 +3,7 @@ use crate::lines::{address_of, more_than, tell, tell_count};
 use exchange_core::Rejection;
 use exchange_report::{PeerLosses, refusal_name};
 use log::{Level, Log};
-use peer_plan::Endpoint;
+use peer_plan::{Endpoint, PeerId};
 use service_state::{
     AUTH_FAILURES, AuthFailure, Hearing, News, PeerMarksRead, REFUSALS, REJECTIONS, Reach,
     ServiceWatch, news_of, reach_of,
@@ -147,7 +147,7 @@ impl PeerTold {
         &mut self,
         log: &L,
         watch: &ServiceWatch,
-        peer: u16,
+        peer: PeerId,
         name: &str,
         from: Endpoint,
         seconds: u64,
@@ -169,7 +169,7 @@ impl PeerTold {
         &mut self,
         log: &L,
         watch: &ServiceWatch,
-        peer: u16,
+        peer: PeerId,
         name: &str,
         from: Endpoint,
         seconds: u64,

@@ -1,7 +1,7 @@
 //! Log lines about the start.
 use crate::lines::{address_of, tell};
 use log::{Level, Log};
-use peer_plan::Plan;
+use peer_plan::{PeerId, Plan};
 
 /// Logs the program's version, the plan's path and the endpoints that are served.
 pub fn tell_start<L: Log>(log: &L, plan: &Plan, version: &str, path: &str) {
@@ -16,8 +16,9 @@ pub fn tell_start<L: Log>(log: &L, plan: &Plan, version: &str, path: &str) {
 
 // Logs the peers, each with its worker.
 fn tell_peers<L: Log>(log: &L, plan: &Plan) {
-    for peer in 0..plan.peer_count() {
-        let (name, worker) = (plan.name(peer), plan.worker(peer));
+    for place in 0..plan.peer_count() {
+        let peer = PeerId::new(place);
+        let (name, worker) = (plan.name(peer), plan.worker(peer).get());
         let at = address_of(plan.endpoint(peer));
         let line = format_args!("peer {name} at {at}, of worker {worker}");
         tell(log, Level::Info, &line);

@@ -12,7 +12,7 @@ use call_records::CallRow;
 use exchange_core::{Refusal, ServiceStage, Watch};
 use exchange_report::{PeerLosses, refusal_name};
 use log::{Level, Log, log_enabled};
-use peer_plan::{Endpoint, Plan};
+use peer_plan::{Endpoint, PeerId, Plan};
 use service_state::{NOTED, Rounds, STRANGERS, ServiceWatch, SocketTable, Wanted, drop_counts};
 use std::alloc::{AllocError, Global};
 use std::mem;
@@ -45,7 +45,7 @@ pub struct LogState<'s> {
     lost_ends: u64,
     // Spare lists for strangers, for refusals, and for ended legs.
     spare: Vec<Endpoint>,
-    spare_refusals: Vec<(u16, Refusal)>,
+    spare_refusals: Vec<(PeerId, Refusal)>,
     spare_ends: Vec<CallRow>,
     legs: Rounds,
     reach: Rounds,
@@ -120,17 +120,17 @@ impl<'s> LogState<'s> {
         self.spare.reserve_exact(STRANGERS)
     }
 
-    /// Reads the counts of a peer for the next `look`. `peer` is its place in the plan, and `now` is in milliseconds since
-    /// the exchange was opened. Returns whether `look` also logs the peer's number of legs; then call `note_legs` first. It
-    /// does so when the peer has fallen silent, and once a second if `Info` is logged.
-    pub fn see_peer<L: Log>(&mut self, log: &L, peer: u16, now: u64) -> bool {
+    /// Reads the counts of a peer for the next `look`. `now` is in milliseconds since the exchange was opened. Returns whether
+    /// `look` also logs the peer's number of legs; then call `note_legs` first. It does so when the peer has fallen silent,
+    /// and once a second if `Info` is logged.
+    pub fn see_peer<L: Log>(&mut self, log: &L, peer: PeerId, now: u64) -> bool {
         let (plan, watch) = (self.plan, self.watch);
-        if peer >= plan.peer_count() {
+        if peer.get() >= plan.peer_count() {
             return false;
         }
         let limit = silence_limit(plan, peer);
         let mut legs = self.legs;
-        match self.peers.get_mut(usize::from(peer)) {
+        match self.peers.get_mut(peer.index()) {
             Some(told) => {
                 let is_silent = told.see(watch.marks(peer), now, limit);
                 is_silent || (legs.due(now).is_some() && log_enabled!(log; Level::Info))
@@ -139,9 +139,9 @@ impl<'s> LogState<'s> {
         }
     }
 
-    /// Stores the number of legs of the peer at this place of the plan, counted right after `see_peer`.
-    pub fn note_legs(&mut self, peer: u16, legs: u16) {
-        if let Some(told) = self.peers.get_mut(usize::from(peer)) {
+    /// Stores the number of legs of a peer, counted right after `see_peer`.
+    pub fn note_legs(&mut self, peer: PeerId, legs: u16) {
+        if let Some(told) = self.peers.get_mut(peer.index()) {
             told.legs_now = legs;
         }
     }
@@ -160,19 +160,17 @@ impl<'s> LogState<'s> {
         rounds.due(now).is_some()
     }
 
-    /// Notes the moment of the first POKE of a run that the peer at this place of the plan didn't answer; `None` if there is no
-    /// such
-    /// run.
-    pub fn note_unanswered(&mut self, peer: u16, unanswered_since: Option<u64>) {
+    /// Notes the moment of the first POKE of a run that a peer didn't answer; `None` if there is no such run.
+    pub fn note_unanswered(&mut self, peer: PeerId, unanswered_since: Option<u64>) {
         let watch = self.watch;
-        if let Some(told) = self.peers.get_mut(usize::from(peer)) {
+        if let Some(told) = self.peers.get_mut(peer.index()) {
             told.note_reach(watch.marks(peer).heard, unanswered_since);
         }
     }
 
-    /// Stores the losses on the way to the peer at this place of the plan.
-    pub fn note_losses(&mut self, peer: u16, losses: PeerLosses) {
-        if let Some(told) = self.peers.get_mut(usize::from(peer)) {
+    /// Stores the losses on the way to a peer.
+    pub fn note_losses(&mut self, peer: PeerId, losses: PeerLosses) {
+        if let Some(told) = self.peers.get_mut(peer.index()) {
             told.lost_now = losses;
         }
     }
@@ -222,8 +220,9 @@ impl<'s> LogState<'s> {
     // Logs the peers that answered for the first time, fell silent, or answered again.
     fn tell_peers<L: Log>(&mut self, log: &L) {
         let plan = self.plan;
-        for peer in 0..plan.peer_count() {
-            if let Some(told) = self.peers.get_mut(usize::from(peer)) {
+        for place in 0..plan.peer_count() {
+            let peer = PeerId::new(place);
+            if let Some(told) = self.peers.get_mut(peer.index()) {
                 if let Some(news) = told.news.take() {
                     tell_news(log, plan.name(peer), news, told.legs_now);
                 }
@@ -234,8 +233,9 @@ impl<'s> LogState<'s> {
     // Which peers became unreachable, and which are there again.
     fn tell_reach<L: Log>(&mut self, log: &L, now: u64) {
         let plan = self.plan;
-        for peer in 0..plan.peer_count() {
-            if let Some(told) = self.peers.get_mut(usize::from(peer)) {
+        for place in 0..plan.peer_count() {
+            let peer = PeerId::new(place);
+            if let Some(told) = self.peers.get_mut(peer.index()) {
                 told.tell_reach(log, plan.name(peer), now);
             }
         }
@@ -247,8 +247,9 @@ impl<'s> LogState<'s> {
             return;
         }
         let plan = self.plan;
-        for peer in 0..plan.peer_count() {
-            if let Some(told) = self.peers.get_mut(usize::from(peer)) {
+        for place in 0..plan.peer_count() {
+            let peer = PeerId::new(place);
+            if let Some(told) = self.peers.get_mut(peer.index()) {
                 told.tell_legs(log, plan.name(peer));
             }
         }
@@ -272,9 +273,10 @@ impl<'s> LogState<'s> {
     // Logs the refusals and losses of a round of `seconds` seconds.
     fn tell_refusals<L: Log>(&mut self, log: &L, seconds: u64) {
         let (plan, watch) = (self.plan, self.watch);
-        for peer in 0..plan.peer_count() {
+        for place in 0..plan.peer_count() {
+            let peer = PeerId::new(place);
             let name = plan.name(peer);
-            if let Some(told) = self.peers.get_mut(usize::from(peer)) {
+            if let Some(told) = self.peers.get_mut(peer.index()) {
                 told.tell_refusals(log, watch, peer, name, plan.endpoint(peer), seconds);
                 told.tell_losses(log, name, seconds);
             }
@@ -297,7 +299,7 @@ impl<'s> LogState<'s> {
         let spare = mem::replace(&mut self.spare_refusals, Vec::new(alloc));
         let mut refused = self.watch.take_refusals(rt, spare);
         for (peer, refusal) in &refused {
-            if *peer < self.plan.peer_count() {
+            if peer.get() < self.plan.peer_count() {
                 let (name, refusal) = (self.plan.name(*peer), refusal_name(*refusal));
                 let line = format_args!("refused {refusal} from {name}");
                 tell(log, Level::Debug, &line);

@@ -10,7 +10,7 @@ use call_files::CallOutlets;
 use call_records::{CallRow, reason_name};
 use exchange_core::{Event, Refusal, Rejection, Retired, ServiceStage, Watch};
 use exchange_report::call_row;
-use peer_plan::{Endpoint, Plan};
+use peer_plan::{Endpoint, PeerId, Plan, WorkerId};
 use std::alloc::{AllocError, Global};
 use std::mem;
 use std::sync::atomic::{AtomicU64, Ordering};
@@ -43,7 +43,7 @@ pub struct ServiceWatch {
     seen: Mutex<Vec<Endpoint>>,
     // The refusals and the ended legs that the log hasn't taken yet, if it wants them.
     wanted: Wanted,
-    refusals: Noted<(u16, Refusal)>,
+    refusals: Noted<(PeerId, Refusal)>,
     ends: Noted<CallRow>,
     wakers: WakerTable,
     // The outlets for the rows of ended legs, if a file of call records is written.
@@ -75,7 +75,7 @@ impl Drop for ServiceWatch {
 fn noted_of(
     alloc: Global,
     wanted: Wanted,
-) -> Result<(Noted<(u16, Refusal)>, Noted<CallRow>), AllocError> {
+) -> Result<(Noted<(PeerId, Refusal)>, Noted<CallRow>), AllocError> {
     let refusals = Noted::new(alloc, if wanted.refusals { NOTED } else { 0 })?;
     let ends = Noted::new(alloc, if wanted.ends { NOTED } else { 0 })?;
     Ok((refusals, ends))
@@ -87,7 +87,8 @@ fn room_of(
     plan: &Plan,
 ) -> Result<(Vec<PeerMarks>, Vec<Endpoint>, WakerTable), AllocError> {
     let mut peers = Vec::new(alloc);
-    for peer in 0..plan.peer_count() {
+    for place in 0..plan.peer_count() {
+        let peer = PeerId::new(place);
         let marks = PeerMarks::new(alloc, plan.worker(peer))?;
         if peers.push(marks).is_err() {
             return Err(AllocError);
@@ -128,18 +129,18 @@ impl ServiceWatch {
         })
     }
 
-    /// Returns the counters of the peer at this place of the plan, or zeros if the plan has no such place.
-    pub fn marks(&self, peer: u16) -> PeerMarksRead {
-        match self.peers.get(usize::from(peer)) {
+    /// Returns the counters of a peer, or zeros if the plan has no such peer.
+    pub fn marks(&self, peer: PeerId) -> PeerMarksRead {
+        match self.peers.get(peer.index()) {
             Some(marks) => marks.read(),
             None => PeerMarksRead::default(),
         }
     }
 
-    /// Returns the number of a peer's datagrams that were refused for this reason, modulo 2^64. `peer` is a place in the
-    /// plan; if there is none, the number is 0.
-    pub fn refused_for(&self, peer: u16, refusal: Refusal) -> u64 {
-        match self.peers.get(usize::from(peer)) {
+    /// Returns the number of a peer's datagrams that were refused for this reason, modulo 2^64. If the plan has no
+    /// such peer, the number is 0.
+    pub fn refused_for(&self, peer: PeerId, refusal: Refusal) -> u64 {
+        match self.peers.get(peer.index()) {
             Some(marks) => match marks.refused_for(refusal) {
                 Some(count) => count.load(Ordering::Relaxed),
                 None => 0,
@@ -148,28 +149,28 @@ impl ServiceWatch {
         }
     }
 
-    /// Returns the number of a peer's datagrams that were answered by this rejection, modulo 2^64. `peer` is a place in the
-    /// plan; if there is none, the number is 0.
-    pub fn rejected(&self, peer: u16, rejection: Rejection) -> u64 {
-        match self.peers.get(usize::from(peer)) {
+    /// Returns the number of a peer's datagrams that were answered by this rejection, modulo 2^64. If the plan has no
+    /// such peer, the number is 0.
+    pub fn rejected(&self, peer: PeerId, rejection: Rejection) -> u64 {
+        match self.peers.get(peer.index()) {
             Some(marks) => marks.rejected(rejection).load(Ordering::Relaxed),
             None => 0,
         }
     }
 
-    /// Returns the number of a peer's calls that failed to authenticate in this way, modulo 2^64. `peer` is a place in the
-    /// plan; if there is none, the number is 0.
-    pub fn unauthenticated(&self, peer: u16, failure: AuthFailure) -> u64 {
-        match self.peers.get(usize::from(peer)) {
+    /// Returns the number of a peer's calls that failed to authenticate in this way, modulo 2^64. If the plan has no
+    /// such peer, the number is 0.
+    pub fn unauthenticated(&self, peer: PeerId, failure: AuthFailure) -> u64 {
+        match self.peers.get(peer.index()) {
             Some(marks) => marks.unauthenticated(failure).load(Ordering::Relaxed),
             None => 0,
         }
     }
 
-    /// Returns the number of a peer's calls that failed for the reason of this name, modulo 2^64. `peer` is a place in the
-    /// plan; if there is none, the number is 0.
-    pub fn failed(&self, peer: u16, reason: &str) -> u64 {
-        match self.peers.get(usize::from(peer)) {
+    /// Returns the number of a peer's calls that failed for the reason of this name, modulo 2^64. If the plan has no
+    /// such peer, the number is 0.
+    pub fn failed(&self, peer: PeerId, reason: &str) -> u64 {
+        match self.peers.get(peer.index()) {
             Some(marks) => match marks.failed(reason) {
                 Some(count) => count.load(Ordering::Relaxed),
                 None => 0,
@@ -205,13 +206,12 @@ impl ServiceWatch {
         mem::replace(&mut *seen, spare)
     }
 
-    /// Takes the new refusals, each with the place of its peer, if they are wanted. The list `spare` replaces theirs, with
-    /// its content.
+    /// Takes the new refusals, each with its peer, if they are wanted. The list `spare` replaces theirs, with its content.
     pub fn take_refusals<R: Wait>(
         &self,
         rt: &R,
-        spare: Vec<(u16, Refusal)>,
-    ) -> Vec<(u16, Refusal)> {
+        spare: Vec<(PeerId, Refusal)>,
+    ) -> Vec<(PeerId, Refusal)> {
         self.refusals.take(rt, spare)
     }
 
@@ -226,9 +226,21 @@ impl ServiceWatch {
         self.ends.lost()
     }
 
-    /// Keeps the waker of the worker at this place of the plan, unless it has one.
-    pub fn keep_waker(&self, worker: u16, waker: WireWaker) {
+    /// Keeps the waker of a worker, unless it has one.
+    pub fn keep_waker(&self, worker: WorkerId, waker: WireWaker) {
         self.wakers.keep(worker, waker);
+    }
+
+    /// Takes a leg that a thread took out: counts its end, and hands it to the call records and the trace. The threads are
+    /// the workers, by their places in the plan, and then the one that serves the clients.
+    pub fn note_retired(&self, thread: u16, leg: &Retired) {
+        self.see_end(leg);
+        if let Some(calls) = &self.calls {
+            calls.hand_over(thread, call_row(leg, 0));
+        }
+        if let Some(trace) = &self.trace {
+            trace.retire(thread, leg.name.number);
+        }
     }
 
     /// Wakes each worker that has a waker, after an order that may have filled outboxes of any peer.
@@ -242,16 +254,16 @@ impl ServiceWatch {
     }
 
     // Counts a datagram received from a peer.
-    fn hear(&self, peer: u16, now: u64) {
-        if let Some(marks) = self.peers.get(usize::from(peer)) {
+    fn hear(&self, peer: PeerId, now: u64) {
+        if let Some(marks) = self.peers.get(peer.index()) {
             marks.heard.store(now.saturating_add(1), Ordering::Relaxed);
             count_one(&marks.received);
         }
     }
 
     // Counts a datagram of a peer that had no effect.
-    fn refuse(&self, peer: u16, refusal: Refusal) {
-        if let Some(marks) = self.peers.get(usize::from(peer)) {
+    fn refuse(&self, peer: PeerId, refusal: Refusal) {
+        if let Some(marks) = self.peers.get(peer.index()) {
             count_one(&marks.refused);
             if let Some(count) = marks.refused_for(refusal) {
                 count_one(count);
@@ -265,7 +277,7 @@ impl ServiceWatch {
     // Counts a leg that has ended if its call or its authentication failed, and keeps it for the log if that wants it.
     fn see_end(&self, leg: &Retired) {
         let row = call_row(leg, 0);
-        if let Some(marks) = self.peers.get(usize::from(row.name.peer)) {
+        if let Some(marks) = self.peers.get(row.name.owner().index()) {
             if let Some(failure) = AuthFailure::of(&row) {
                 count_one(marks.unauthenticated(failure));
             }
@@ -279,26 +291,26 @@ impl ServiceWatch {
     }
 
     // Counts a request of a peer that the answer rejected.
-    fn reject(&self, peer: u16, rejection: Rejection) {
-        if let Some(marks) = self.peers.get(usize::from(peer)) {
+    fn reject(&self, peer: PeerId, rejection: Rejection) {
+        if let Some(marks) = self.peers.get(peer.index()) {
             count_one(marks.rejected(rejection));
         }
     }
 
     // Counts a datagram of a peer that wasn't passed to the exchange.
-    fn turn_away(&self, peer: u16) {
-        if let Some(marks) = self.peers.get(usize::from(peer)) {
+    fn turn_away(&self, peer: PeerId) {
+        if let Some(marks) = self.peers.get(peer.index()) {
             count_one(&marks.refused);
             count_one(&marks.turned_away);
             if let Some(trace) = &self.trace {
-                trace.turn_away(marks.worker);
+                trace.turn_away(marks.worker.get());
             }
         }
     }
 
     // Counts a leg of a peer that was taken out.
-    fn end_leg(&self, peer: u16) {
-        if let Some(marks) = self.peers.get(usize::from(peer)) {
+    fn end_leg(&self, peer: PeerId) {
+        if let Some(marks) = self.peers.get(peer.index()) {
             count_one(&marks.legs_ended);
         }
     }
@@ -315,8 +327,8 @@ impl ServiceWatch {
     }
 
     // Counts a datagram to a peer as sent or lost.
-    fn send(&self, peer: u16, lost: bool) {
-        if let Some(marks) = self.peers.get(usize::from(peer)) {
+    fn send(&self, peer: PeerId, lost: bool) {
+        if let Some(marks) = self.peers.get(peer.index()) {
             count_one(if lost { &marks.lost } else { &marks.sent });
         }
     }
@@ -341,14 +353,8 @@ impl Watch for ServiceWatch {
         }
     }
 
-    fn retire(&self, worker: u16, leg: &Retired) {
-        self.see_end(leg);
-        if let Some(calls) = &self.calls {
-            calls.hand_over(worker, call_row(leg, 0));
-        }
-        if let Some(trace) = &self.trace {
-            trace.retire(worker, leg.name.number);
-        }
+    fn retire(&self, worker: WorkerId, leg: &Retired) {
+        self.note_retired(worker.get(), leg);
     }
 
     // A service runs with all workers or none: if a thread is refused, the others end.
@@ -356,7 +362,7 @@ impl Watch for ServiceWatch {
         self.lifecycle.end();
     }
 
-    fn wake(&self, worker: u16) {
+    fn wake(&self, worker: WorkerId) {
         self.wakers.wake(worker);
     }
 }

@@ -1,4 +1,5 @@
 //! The wakers of a service's workers.
+use peer_plan::WorkerId;
 use std::alloc::{AllocError, Global};
 use std::sync::OnceLock;
 use udp_wires::WireWaker;
@@ -24,15 +25,15 @@ impl WakerTable {
     }
 
     /// Keeps the waker of the worker at this place, unless it has one.
-    pub(crate) fn keep(&self, worker: u16, waker: WireWaker) {
-        if let Some(slot) = self.slots.get(usize::from(worker)) {
+    pub(crate) fn keep(&self, worker: WorkerId, waker: WireWaker) {
+        if let Some(slot) = self.slots.get(worker.index()) {
             let _kept = slot.try_set(waker);
         }
     }
 
     /// Wakes the worker at this place, if it has a waker.
-    pub(crate) fn wake(&self, worker: u16) {
-        if let Some(slot) = self.slots.get(usize::from(worker)) {
+    pub(crate) fn wake(&self, worker: WorkerId) {
+        if let Some(slot) = self.slots.get(worker.index()) {
             if let Some(waker) = slot.get() {
                 waker.wake();
             }

@@ -5,7 +5,7 @@ ghost use Rattle.step_log.specs.Notes.{without_lease};
 use crate::seen::Seen;
 use crate::trail::Trail;
 use call_auth::Challenge;
-use call_book::{BridgeError, Lease, LegName, ReserveError, Stale};
+use call_book::{BridgeError, Lease, LegName, PeerId, ReserveError, Stale};
 use iax_frames::{FullHead, Octets, Out};
 use leg_machine::{Caller, Format, OrderKind};
 use peer_lock::{
@@ -13,15 +13,15 @@ use peer_lock::{
     TickReport,
 };
 
-/// A request to a locked state, and its answer. A peer is its place in the plan; moments are in milliseconds.
+/// A request to a locked state, and its answer. Moments are in milliseconds.
 #[derive(Drop)]
 pub enum Made {
     /// A datagram came to a peer: its octets, the moment, the answer, and the signals handed up.
-    Datagram(u16, Octets, u64, Result<Step, PeerError>, Seen<Onwards>),
+    Datagram(PeerId, Octets, u64, Result<Step, PeerError>, Seen<Onwards>),
     /// A received NEW opens a leg of a peer: the name, the frame's head and data, the moment, the challenge, the answer,
     /// and the signals handed up.
     OpenIn(
-        u16,
+        PeerId,
         LegName,
         FullHead,
         Octets,
@@ -31,22 +31,22 @@ pub enum Made {
         Seen<Onwards>,
     ),
     /// A peer rejects a received NEW for want of a number: the frame's head and data, and the answer.
-    RejectNew(u16, FullHead, Octets, Result<Step, RejectError>),
+    RejectNew(PeerId, FullHead, Octets, Result<Step, RejectError>),
     /// A NEW of the exchange opens a leg of a peer: the name, the number that is called, the caller, the format, the
     /// moment, and the answer.
-    OpenOut(u16, LegName, Octets, Seen<Caller>, Format, u64, Result<Step, OpenError>),
+    OpenOut(PeerId, LegName, Octets, Seen<Caller>, Format, u64, Result<Step, OpenError>),
     /// A leg of a peer gets an order: the leg's name, the order with its media, the moment, and the answer.
-    Order(u16, LegName, OrderKind, Octets, u64, Result<Step, OrderError>),
+    Order(PeerId, LegName, OrderKind, Octets, u64, Result<Step, OrderError>),
     /// A tick of a peer: the moment, and the answer.
-    Tick(u16, u64, Result<TickReport, StepsSpent>),
+    Tick(PeerId, u64, Result<TickReport, StepsSpent>),
     /// A query of a leg of a peer: its local number, and its status.
-    Look(u16, u16, Option<Status>),
+    Look(PeerId, u16, Option<Status>),
     /// A leg of a peer is taken out, if it can be: its name, and its facts and its record if it was.
-    Retire(u16, LegName, Option<Seen<EndedLeg>>),
+    Retire(PeerId, LegName, Option<Seen<EndedLeg>>),
     /// The oldest datagram of a peer's outbox is taken out, if one waits: its octets.
-    TakeOut(u16, Option<Seen<Out>>),
+    TakeOut(PeerId, Option<Seen<Out>>),
     /// The book gives a name of a peer.
-    Reserve(u16, Result<LegName, ReserveError>),
+    Reserve(PeerId, Result<LegName, ReserveError>),
     /// The book makes two names partners.
     Bridge(LegName, LegName, Result<(), BridgeError>),
     /// The book returns the partner of a name.

@@ -8,7 +8,7 @@ ghost use Rattle.step_log.specs.declared.made.Made.TheVariants as mades;
 
 use crate::made::{Made, push, told};
 use crate::pass::Pass;
-use call_book::{BridgeError, CallBook, Lease, LegName, ReserveError, Stale};
+use call_book::{BridgeError, CallBook, Lease, LegName, PeerId, ReserveError, Stale};
 use peer_lock::LedgerSet;
 use std::marker::Model;
 
@@ -61,7 +61,7 @@ impl NotedBook {
     pub fn reserve<J: LedgerSet>(
         &mut self,
         pass: &mut Pass<J>,
-        peer: u16,
+        peer: PeerId,
     ) -> Result<Lease, ReserveError>
         ensures answer { result ≡ reserve_answer self.old peer }
         ensures book { self.new ≡ after_reserve self.old peer }

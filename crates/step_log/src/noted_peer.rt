@@ -5,13 +5,14 @@ ghost use Rattle.peer_lock.specs.Descriptions.{description_from, description_of}
 ghost use Rattle.peer_lock.specs.Legs.{leg_at};
 ghost use Rattle.peer_lock.specs.Statuses.{status_of};
 
+use call_book::PeerId;
 use peer_lock::{Description, LedgerSet, Losses, PeerState, Pokes, Status, Sums};
 use std::marker::Model;
 
 /// The state of a peer. Each of its steps is noted under the pass with which it is made. Contracts see that state and the
 /// peer's place in the plan.
 pub struct NotedPeer<J: LedgerSet> {
-    pub(crate) number: u16,
+    pub(crate) number: PeerId,
     pub(crate) state: PeerState<J>,
 }
 
@@ -34,8 +35,8 @@ impl<J: LedgerSet> Model for NotedPeer<J> {
 }
 
 impl<J: LedgerSet> NotedPeer<J> {
-    /// Returns the state of the peer at this place of the plan. Each of its steps is noted from now on.
-    pub fn new(number: u16, state: PeerState<J>) -> NotedPeer<J>
+    /// Returns the state of this peer. Each of its steps is noted from now on.
+    pub fn new(number: PeerId, state: PeerState<J>) -> NotedPeer<J>
         requires { state.legs.peer ≡ number }
         ensures number { result.number ≡ number }
         ensures state { result.state ≡ state }
@@ -43,8 +44,8 @@ impl<J: LedgerSet> NotedPeer<J> {
         NotedPeer { number, state }
     }
 
-    /// Returns the peer's place in the plan, from 0 on.
-    pub fn number(&self) -> u16
+    /// Returns the peer.
+    pub fn number(&self) -> PeerId
         ensures { result ≡ self.now.number }
     {
         self.number

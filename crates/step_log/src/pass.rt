@@ -5,6 +5,7 @@ ghost use Rattle.peer_accounts.specs.HandedUp.{IsNothing};
 use crate::made::{Made, push};
 use crate::stepped_peers::SteppedPeers;
 use crate::trail::Trail;
+use call_book::PeerId;
 use media_ledger::Share;
 use peer_lock::{LedgerSet, Onwards, Pass as Credits};
 use std::alloc::Global;
@@ -96,17 +97,16 @@ impl<J: LedgerSet> Pass<J> {
         self.credits.keep(onwards);
     }
 
-    /// Returns whether the peer at this place of the plan had a step since its last tick under this pass, whatever the
+    /// Returns whether this peer had a step since its last tick under this pass, whatever the
     /// answer. Also returns true if that tick found no memory for a frame. A place past the 32nd has no peer.
-    pub fn is_unticked(&self, peer: u16) -> bool
+    pub fn is_unticked(&self, peer: PeerId) -> bool
         ensures { result ≡ is_unticked self.now peer }
     {
         self.stepped.is_unticked(peer)
     }
 
-    /// Returns whether the peer at this place of the plan had a step or a tick under this pass since the last call for this
-    /// peer.
-    pub fn take_unasked(&mut self, peer: u16) -> bool
+    /// Returns whether this peer had a step or a tick under this pass since the last call for it.
+    pub fn take_unasked(&mut self, peer: PeerId) -> bool
         ensures same { self.new ≡ self.old }
     {
         self.stepped.take_unasked(peer)

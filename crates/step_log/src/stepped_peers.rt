@@ -2,6 +2,7 @@
 ghost use Rattle.std.specs.Prelude.{◌≡◌, true, false, get_or, set};
 ghost use Rattle.step_log.specs.Stepped.{has_skipped, no_peers};
 
+use call_book::PeerId;
 use peer_lock::{StepsSpent, TickReport};
 
 // The greatest number of peers of a plan.
@@ -29,10 +30,10 @@ impl SteppedPeers {
 
     // Notes a step other than a tick at a peer.
     #[tactic(auto, using(std::proofs::lemmas::List::set_past))]
-    pub(crate) fn step(&mut self, peer: u16)
+    pub(crate) fn step(&mut self, peer: PeerId)
         ensures { self.new.unticked ≡ set self.old.unticked peer true }
     {
-        let place = usize::from(peer);
+        let place = peer.index();
         if place < PEERS {
             self.unticked[place] = true;
             self.unasked[place] = true;
@@ -41,10 +42,10 @@ impl SteppedPeers {
 
     // Notes a tick of a peer. `is_undone`: the tick has to be repeated.
     #[tactic(auto, using(std::proofs::lemmas::List::set_past))]
-    pub(crate) fn tick(&mut self, peer: u16, is_undone: bool)
+    pub(crate) fn tick(&mut self, peer: PeerId, is_undone: bool)
         ensures { self.new.unticked ≡ set self.old.unticked peer is_undone }
     {
-        let place = usize::from(peer);
+        let place = peer.index();
         if place < PEERS {
             self.unticked[place] = is_undone;
             self.unasked[place] = true;
@@ -52,18 +53,18 @@ impl SteppedPeers {
     }
 
     // Returns whether a step was made at a peer since its last tick, or that tick has to be repeated.
-    pub(crate) fn is_unticked(&self, peer: u16) -> bool
+    pub(crate) fn is_unticked(&self, peer: PeerId) -> bool
         ensures { result ≡ get_or self.now.unticked peer false }
     {
-        let place = usize::from(peer);
+        let place = peer.index();
         place < PEERS && self.unticked[place]
     }
 
     // Returns whether a step was made at a peer since the last call for it.
-    pub(crate) fn take_unasked(&mut self, peer: u16) -> bool
+    pub(crate) fn take_unasked(&mut self, peer: PeerId) -> bool
         ensures { self.new.unticked ≡ self.old.unticked }
     {
-        let place = usize::from(peer);
+        let place = peer.index();
         if place >= PEERS {
             return false;
         }

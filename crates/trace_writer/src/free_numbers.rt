@@ -1,6 +1,6 @@
 //! The order in which free numbers are given out, and the serial of the next leg, as the lines of a script say them.
 use crate::trace::Trace;
-use peer_plan::Plan;
+use peer_plan::{PeerId, Plan};
 use plain_text::TextBuffer;
 use std::alloc::{AllocError, Global};
 
@@ -60,7 +60,8 @@ pub(crate) fn drain_line(drains: bool) -> &'static str {
 
 // Writes the order of the free numbers of each peer.
 fn write_free(lines: &mut TextBuffer, alloc: Global, trace: &Trace, plan: &Plan) {
-    for peer in 0..plan.peer_count() {
+    for place in 0..plan.peer_count() {
+        let peer = PeerId::new(place);
         let range = plan.range(peer);
         lines.text("free ");
         lines.text(plan.name(peer));

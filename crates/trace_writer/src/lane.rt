@@ -4,7 +4,7 @@ use crate::free_numbers::orders_of;
 use crate::mark::{Batch, Input, Mark};
 use crate::trace::Trace;
 use call_auth::Challenge;
-use peer_plan::{Endpoint, Plan};
+use peer_plan::{Endpoint, PeerId, Plan};
 use std::alloc::{AllocError, Global};
 use std::sync::Wait;
 
@@ -209,19 +209,27 @@ impl<'t> TraceLane<'t> {
         self.untaken = 0;
     }
 
-    /// Notes the datagram that is given to the exchange next. `peer` is its peer's place in the plan, or `None` if no peer
-    /// has the endpoint. The challenge is noted only with a peer's full frame ("Full Frames").
-    pub fn datagram<R: Wait>(&mut self, rt: &R, peer: Option<u16>, from: Endpoint, octets: &[u8]) {
+    /// Notes the datagram that is given to the exchange next. `peer` is `None` if no peer has the endpoint. The challenge is
+    /// noted only with a peer's full frame ("Full Frames").
+    pub fn datagram<R: Wait>(
+        &mut self,
+        rt: &R,
+        peer: Option<PeerId>,
+        from: Endpoint,
+        octets: &[u8],
+    ) {
         self.has_received = true;
         match peer {
             Some(peer) if is_full(octets) => {
                 let text = self.challenge.copied();
                 let text = text.as_slice();
                 let challenge = text.len() as u8;
+                let peer = peer.get();
                 self.begin(rt, Input::Datagram { peer, challenge }, text, octets);
             }
             Some(peer) => {
                 let challenge = 0;
+                let peer = peer.get();
                 self.begin(rt, Input::Datagram { peer, challenge }, b"", octets);
             }
             None => self.begin(rt, Input::Stranger { from }, b"", octets),
@@ -251,13 +259,13 @@ impl<'t> TraceLane<'t> {
         }
     }
 
-    /// Notes a datagram sent to the peer at this place of the plan, 0 ..= 31. `is_taken` is false if the socket lost it.
-    pub fn send<R: Wait>(&mut self, rt: &R, peer: u16, is_taken: bool) {
+    /// Notes a datagram sent to a peer of the plan. `is_taken` is false if the socket lost it.
+    pub fn send<R: Wait>(&mut self, rt: &R, peer: PeerId, is_taken: bool) {
         if self.peers == 0 {
             self.tick_if_none(rt);
             self.end();
         }
-        self.peers |= 1u32.wrapping_shl(u32::from(peer));
+        self.peers |= 1u32.wrapping_shl(u32::from(peer.get()));
         if !is_taken {
             self.untaken = self.untaken.saturating_add(1);
         }
@@ -295,13 +303,13 @@ impl<'t> TraceLane<'t> {
         }
     }
 
-    /// Notes that a call is placed next, to the peer at this place of the plan. `now` is in milliseconds since the exchange
+    /// Notes that a call is placed next, to this peer. `now` is in milliseconds since the exchange
     /// was opened. A number of more than 2,081 octets is noted as an empty one.
-    pub fn begin_call<R: Wait>(&mut self, rt: &R, now: u64, peer: u16, number: &[u8]) {
+    pub fn begin_call<R: Wait>(&mut self, rt: &R, now: u64, peer: PeerId, number: &[u8]) {
         self.resume(rt);
         self.now = now;
         let number = if number.len() <= LONGEST { number } else { b"" };
-        self.begin(rt, Input::Call { peer }, number, b"");
+        self.begin(rt, Input::Call { peer: peer.get() }, number, b"");
     }
 
     /// Notes that the leg of this local number hangs up next. `now` is in milliseconds since the exchange was opened.

@@ -6,7 +6,7 @@ ghost use Rattle.trace_writer.specs.Digits.{spells_digit, hidden, shown};
 use crate::free_numbers::drain_line;
 use crate::hexadecimal::end_in_hex;
 use crate::mark::{Input, Mark};
-use peer_plan::{Endpoint, Plan};
+use peer_plan::{Endpoint, PeerId, Plan};
 use plain_text::TextBuffer;
 use std::alloc::{AllocError, Global};
 use std::io::Write;
@@ -82,7 +82,8 @@ fn end_in_octets(
 // Returns the beginning of a datagram's line, for each peer.
 fn heads_of(alloc: Global, plan: &Plan) -> Result<Vec<String>, AllocError> {
     let mut heads = Vec::new(alloc);
-    for peer in 0..plan.peer_count() {
+    for place in 0..plan.peer_count() {
+        let peer = PeerId::new(place);
         let head = format!(in alloc; "rx {} ", plan.name(peer))?;
         if heads.push(head).is_err() {
             return Err(AllocError);
@@ -94,9 +95,10 @@ fn heads_of(alloc: Global, plan: &Plan) -> Result<Vec<String>, AllocError> {
 // Returns the peers of a worker, as bits.
 fn peers_of(plan: &Plan, thread: usize) -> u32 {
     let mut peers: u32 = 0;
-    for peer in 0..plan.peer_count() {
-        if usize::from(plan.worker(peer)) == thread {
-            peers |= 1u32.wrapping_shl(u32::from(peer));
+    for place in 0..plan.peer_count() {
+        let peer = PeerId::new(place);
+        if plan.worker(peer).index() == thread {
+            peers |= 1u32.wrapping_shl(u32::from(place));
         }
     }
     peers
@@ -108,8 +110,9 @@ fn write_peers(plan: &Plan, command: &str, peers: u32, lines: &mut TextBuffer) {
         lines.text(command);
         return lines.text("\n");
     }
-    for peer in 0..plan.peer_count() {
-        if peers.wrapping_shr(u32::from(peer)) & 1 == 1 {
+    for place in 0..plan.peer_count() {
+        let peer = PeerId::new(place);
+        if peers.wrapping_shr(u32::from(place)) & 1 == 1 {
             lines.text(command);
             lines.text(" ");
             lines.text(plan.name(peer));
@@ -130,7 +133,8 @@ fn is_word(text: &[u8]) -> bool {
 
 // Returns the key of the call tokens, if a peer needs them.
 fn token_key(plan: &Plan) -> Option<[u8; 32]> {
-    for peer in 0..plan.peer_count() {
+    for place in 0..plan.peer_count() {
+        let peer = PeerId::new(place);
         if let Some(tokens) = plan.call_tokens(peer) {
             let key = tokens.key;
             return Some(key);
@@ -139,9 +143,9 @@ fn token_key(plan: &Plan) -> Option<[u8; 32]> {
     None
 }
 
-// Returns the name of a peer, by its place in the plan.
-fn name_of(plan: &Plan, peer: u16) -> &str {
-    if peer < plan.peer_count() {
+// Returns the name of a peer, or an empty text if the plan has no such peer.
+fn name_of(plan: &Plan, peer: PeerId) -> &str {
+    if peer.get() < plan.peer_count() {
         plan.name(peer)
     } else {
         ""
@@ -216,7 +220,7 @@ impl<'p> Script<'p> {
         self.missing = missing;
         match mark.input {
             Input::Datagram { peer, challenge: 0 } if self.goes_on(mark) => {
-                self.write_datagram(peer, octets);
+                self.write_datagram(PeerId::new(peer), octets);
             }
             Input::Nothing | Input::Rest => {}
             input => {
@@ -290,12 +294,12 @@ impl<'p> Script<'p> {
             Input::Datagram { peer, challenge } => {
                 let (challenge, octets) = octets.split_at(octets.len().min(usize::from(challenge)));
                 self.write_challenge(challenge);
-                self.write_datagram(peer, octets);
+                self.write_datagram(PeerId::new(peer), octets);
             }
             Input::TurnedAway { peer, challenge } => {
                 self.lines.text("# Turned away, since the service drains: ");
                 let octets = octets.get(usize::from(challenge)..).unwrap_or(b"");
-                self.write_datagram(peer, octets);
+                self.write_datagram(PeerId::new(peer), octets);
             }
             Input::Stranger { from } => self.write_stranger(from, octets),
             Input::Tick => {
@@ -307,7 +311,7 @@ impl<'p> Script<'p> {
                 self.write_sends(peers, lost);
             }
             Input::Send { peers, lost } => self.write_sends(peers, lost),
-            Input::Call { peer } => self.write_call(peer, octets),
+            Input::Call { peer } => self.write_call(PeerId::new(peer), octets),
             Input::HangUp { number } => {
                 self.lines.text("hangup ");
                 self.lines.number(u64::from(number));
@@ -343,11 +347,11 @@ impl<'p> Script<'p> {
     }
 
     // Adds a datagram of a peer. One without octets has no line, and does nothing.
-    fn write_datagram(&mut self, peer: u16, octets: &[u8]) {
+    fn write_datagram(&mut self, peer: PeerId, octets: &[u8]) {
         if octets.is_empty() {
             self.lines.text("# Without an octet: ");
         }
-        if let Some(head) = self.heads.get(usize::from(peer)) {
+        if let Some(head) = self.heads.get(peer.index()) {
             self.lines.text(head);
         }
         if end_in_octets(self.alloc, self.manner, &mut self.lines.octets, octets).is_err() {
@@ -370,7 +374,7 @@ impl<'p> Script<'p> {
     }
 
     // Adds a call that an order placed.
-    fn write_call(&mut self, peer: u16, number: &[u8]) {
+    fn write_call(&mut self, peer: PeerId, number: &[u8]) {
         if !is_word(number) {
             return self
                 .lines

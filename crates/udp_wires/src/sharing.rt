@@ -2,7 +2,7 @@
 ghost use Rattle.std.specs.Prelude.{◌≡◌, ◌≤◌, length};
 ghost use Rattle.udp_wires.specs.Sharing.{is_among, sharing_among, sharing_of};
 
-use peer_plan::Endpoint;
+use peer_plan::{Endpoint, WorkerId};
 
 /// Whether other workers of a plan have a worker's endpoint too.
 #[derive(Clone, Copy, Debug, PartialEq, Eq)]
@@ -38,13 +38,13 @@ impl Sharing {
         }
     }
 
-    /// Returns whether other workers of the plan have the endpoint of the worker at this place, before it or behind it. For
-    /// the place behind the last worker it returns `Alone`.
-    pub fn of(workers: &[Endpoint], place: u16) -> Sharing
-        requires { place ≤ length workers.now }
-        ensures { result ≡ sharing_of workers.now place }
+    /// Returns whether other workers of the plan have this worker's endpoint, before it or behind it. For the place behind
+    /// the last worker it returns `Alone`.
+    pub fn of(workers: &[Endpoint], worker: WorkerId) -> Sharing
+        requires { worker ≤ length workers.now }
+        ensures { result ≡ sharing_of workers.now worker }
     {
-        let (before, others) = workers.split_at(usize::from(place));
+        let (before, others) = workers.split_at(worker.index());
         Sharing::among(before, others)
     }
 }

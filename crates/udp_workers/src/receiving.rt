@@ -1,5 +1,6 @@
 //! Receives datagrams.
-ghost use Rattle.std.specs.Prelude.{◌≡◌, ◌+◌, ◌≤◌, ◌⊎◌, IsTrue, Some};
+ghost use Rattle.std.specs.Prelude.{◌≡◌, ◌≢◌, ◌+◌, ◌<◌, ◌≤◌, ◌⊎◌, All, IfNone, IfSome, IsTrue, Some};
+ghost use Rattle.std.specs.Prelude.{length, option_map, slice_get};
 ghost use Rattle.exchange_core.specs.Rejections.{rejected_since};
 ghost use Rattle.exchange_core.specs.Traces.{IsHeard, moment};
 ghost use Rattle.peer_plan.specs.declared.endpoint.Endpoint.{Endpoint};
@@ -16,6 +17,7 @@ use crate::inbox::Inbox;
 use crate::intake::loaded;
 use crate::tally::Tally;
 use crate::turning::Turn;
+use call_book::PeerId;
 use exchange_core::{Event, Gate, Pass, Watch};
 use peer_lock::LedgerSet;
 use peer_plan::Endpoint;
@@ -25,16 +27,21 @@ use udp_wires::Wire;
 // The greatest number of datagrams that one turn receives.
 const DATAGRAMS: u64 = 64;
 
-// Handles a received datagram. A stranger's is refused, and so is a NEW while the service drains. Any other is given to the
-// exchange.
+// Handles a received datagram from this endpoint, which is this peer's. A stranger's is refused, and so is a NEW while the
+// service drains. Any other is given to the exchange.
 fn hear<V: Watch, G: Gate, J: LedgerSet, R: Wait>(
     turn: &Turn<'_, G, J, R>,
     pass: &mut Pass<J>,
     tally: &mut Tally<'_, V>,
+    peer: Option<PeerId>,
     from: Endpoint,
     octets: &[u8],
 )
     requires room { HasRoom 3 tally.old.report }
+    requires found { IfSome peer (λ peer. option_map (λ peer. peer.endpoint) (slice_get turn.now.exchange.now.peers peer) ≡
+        Some from) }
+    requires none { IfNone peer (All (λ peer. peer.endpoint ≢ from) turn.now.exchange.now.peers) }
+    requires place { IfSome peer (λ peer. peer < length turn.now.exchange.now.peers) }
     ensures received { tally.new.report.received ≡ tally.old.report.received + 1 }
     ensures refused { tally.new.report.refused ≤ tally.old.report.refused + 1 }
     ensures more { tally.old.report.refused ≤ tally.new.report.refused }
@@ -59,7 +66,7 @@ fn hear<V: Watch, G: Gate, J: LedgerSet, R: Wait>(
           challenge = Some turn.now.challenge.now;
         }) pass.old pass.new }
 {
-    let Some(peer) = turn.exchange.plan().peer_of(from) else {
+    let Some(peer) = peer else {
         tally.tell(Event::Stranger { from });
         return;
     };
@@ -73,7 +80,7 @@ fn hear<V: Watch, G: Gate, J: LedgerSet, R: Wait>(
     }
     let answer = turn
         .exchange
-        .datagram(turn.rt, pass, from, octets, turn.time, turn.challenge);
+        .datagram_of(turn.rt, pass, peer, octets, turn.time, turn.challenge);
     tally.tell_outcome(peer, &answer);
     tally.tell_retired(&answer.retired);
 }
@@ -126,8 +133,11 @@ pub(crate) fn receive_all<W: Wire, V: Watch, G: Gate, J: LedgerSet, R: Wait>(
             return;
         };
         taken = Some(load);
-        wire.note_taken(from, octets);
-        hear(turn, pass, tally, from, octets);
+        let peer = turn.exchange.plan().peer_at(from);
+        // A copy, as in `Tally::tell`.
+        let noted = peer;
+        wire.note_taken(noted, from, octets);
+        hear(turn, pass, tally, peer, from, octets);
         inbox.clear();
     }
 }

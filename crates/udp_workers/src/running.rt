@@ -17,7 +17,7 @@ use crate::unwatched::Unwatched;
 use crate::worker::Worker;
 use exchange_core::{Exchange, Gate, Pass, ServiceStage, Watch};
 use peer_lock::LedgerSet;
-use peer_plan::Plan;
+use peer_plan::{PeerId, Plan};
 use std::sync::Wait;
 use udp_wires::Wire;
 
@@ -38,7 +38,7 @@ fn trunk_ms(plan: &Plan) -> Option<u64>
     if plan.peer_count() == 0 {
         return None;
     }
-    plan.rules(0).trunk_ms
+    plan.rules(PeerId::new(0)).trunk_ms
 }
 
 // Returns the longest wait between two turns, in milliseconds.

@@ -9,6 +9,7 @@ ghost use Rattle.exchange_core.specs.declared.watch.Event.TheVariants as events;
 
 use crate::tally::Tally;
 use crate::turning::Turn;
+use call_book::PeerId;
 use exchange_core::{Event, Gate, Pass, Watch};
 use iax_frames::Out;
 use peer_lock::LedgerSet;
@@ -23,7 +24,7 @@ const FRAMES: u64 = 256;
 fn send_frame<W: Wire, V: Watch>(
     wire: &mut W,
     tally: &mut Tally<'_, V>,
-    peer: u16,
+    peer: PeerId,
     to: Endpoint,
     octets: &[u8],
 )
@@ -65,7 +66,7 @@ fn send_all<W: Wire, V: Watch, G: Gate, J: LedgerSet, R: Wait>(
     wire: &mut W,
     pass: &mut Pass<J>,
     tally: &mut Tally<'_, V>,
-    peer: u16,
+    peer: PeerId,
     to: Endpoint,
     out: &mut Out,
 ) -> bool
@@ -107,7 +108,7 @@ pub(crate) fn send_if_due<W: Wire, V: Watch, G: Gate, J: LedgerSet, R: Wait>(
     wire: &mut W,
     pass: &mut Pass<J>,
     tally: &mut Tally<'_, V>,
-    peer: u16,
+    peer: PeerId,
     to: Endpoint,
     out: &mut Out,
 ) -> bool

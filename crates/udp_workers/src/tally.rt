@@ -5,14 +5,16 @@ ghost use Rattle.udp_workers.specs.Events.{Tells};
 ghost use Rattle.exchange_core.specs.declared.watch.Event.TheVariants as events;
 
 use crate::report::TurnReport;
+use call_book::PeerId;
 use exchange_core::{Answer, Event, Retired, Watch};
+use peer_plan::WorkerId;
 
 // The watch, and the counts of the events reported to it.
 #[derive(Drop)]
 pub(crate) struct Tally<'w, V: Watch> {
     pub(crate) watch: &'w V,
-    // The place of the worker that makes the turns.
-    pub(crate) worker: u16,
+    // The worker that makes the turns.
+    pub(crate) worker: WorkerId,
     pub(crate) report: TurnReport,
     ghost told: { ∥ Tells (V.told watch.now) report ∥₁ },
 }
@@ -21,7 +23,7 @@ impl<'w, V: Watch> Tally<'w, V> {
     ghost use Rattle.udp_workers.specs.Events.{HasRoom, OnlyRetires, counted, nothing};
 
     // Returns a tally before the first event.
-    pub(crate) fn new(watch: &'w V, worker: u16) -> Self
+    pub(crate) fn new(watch: &'w V, worker: WorkerId) -> Self
         ensures watch { result.watch.now ≡ watch.now }
         ensures none { result.report ≡ nothing }
     {
@@ -39,12 +41,14 @@ impl<'w, V: Watch> Tally<'w, V> {
         ensures counted { self.new.report ≡ counted self.old.report event }
         ensures watch { self.new.watch ≡ self.old.watch }
     {
-        self.watch.tell(event);
+        // A copy: the borrow checker doesn't cover an enum that holds a peer and is passed by value twice.
+        let told = event;
+        self.watch.tell(told);
         self.report = self.report.counted(event);
     }
 
     // Reports the outcome of a peer's datagram to the watch: its refusal, or the rejection in its answer.
-    pub(crate) fn tell_outcome(&mut self, peer: u16, answer: &Answer)
+    pub(crate) fn tell_outcome(&mut self, peer: PeerId, answer: &Answer)
         requires room { HasRoom 1 self.old.report }
         ensures rejected { IfSome answer.now.rejected (λ rejection.
             V.told self.old.watch.now (events.Rejected peer rejection)) }
@@ -69,7 +73,7 @@ impl<'w, V: Watch> Tally<'w, V> {
     {
         for leg in legs {
             self.tell(Event::Retired {
-                peer: leg.name.peer,
+                peer: leg.name.owner(),
             });
             self.watch.retire(self.worker, leg);
         }

@@ -20,6 +20,7 @@ use crate::unwatched::Unwatched;
 use crate::waking::wake_others;
 use crate::worker::Worker;
 use call_auth::Challenge;
+use call_book::PeerId;
 use exchange_core::{Exchange, Gate, Pass, ServiceStage, Watch};
 use iax_frames::Out;
 use peer_lock::LedgerSet;
@@ -180,7 +181,7 @@ fn tick_peer<V: Watch, G: Gate, J: LedgerSet, R: Wait>(
     turn: &Turn<'_, G, J, R>,
     pass: &mut Pass<J>,
     tally: &mut Tally<'_, V>,
-    peer: u16,
+    peer: PeerId,
 )
     requires peer { peer < length turn.now.exchange.now.peers }
     requires room { HasRoom 1 tally.old.report }
@@ -198,7 +199,7 @@ fn tick_peer<V: Watch, G: Gate, J: LedgerSet, R: Wait>(
 fn is_due<G: Gate, J: LedgerSet, R: Wait>(
     turn: &Turn<'_, G, J, R>,
     pass: &Pass<J>,
-    peer: u16,
+    peer: PeerId,
 ) -> bool
     ensures { result ≡ is_due turn.now.all peer pass.now }
 {
@@ -211,7 +212,7 @@ fn tick_if_due<V: Watch, G: Gate, J: LedgerSet, R: Wait>(
     turn: &Turn<'_, G, J, R>,
     pass: &mut Pass<J>,
     tally: &mut Tally<'_, V>,
-    peer: u16,
+    peer: PeerId,
 ) -> bool
     requires peer { peer < length turn.now.exchange.now.peers }
     requires room { HasRoom 1 tally.old.report }
@@ -246,7 +247,7 @@ fn tick_due<V: Watch, G: Gate, J: LedgerSet, R: Wait>(
 {
     let mut has_left_out = false;
     for &peer in peers {
-        let is_ticked = tick_if_due(turn, pass, tally, peer);
+        let is_ticked = tick_if_due(turn, pass, tally, PeerId::new(peer));
         has_left_out |= !is_ticked;
     }
     has_left_out
@@ -286,6 +287,7 @@ fn empty_due<W: Wire, V: Watch, G: Gate, J: LedgerSet, R: Wait>(
 {
     let mut was_full = false;
     for &peer in peers {
+        let peer = PeerId::new(peer);
         let to = turn.exchange.plan().endpoint(peer);
         let is_full = send_if_due(turn, wire, pass, tally, peer, to, out);
         was_full |= is_full;

@@ -2,6 +2,7 @@
 ghost use Rattle.std.specs.Prelude.{◌≡◌};
 
 use exchange_core::{Event, Retired, ServiceStage, Watch};
+use peer_plan::WorkerId;
 
 /// Always serves, and ignores its events.
 #[derive(Clone, Copy, Debug, Drop)]
@@ -18,9 +19,9 @@ impl Watch for Unwatched {
 
     fn tell(&self, _event: Event) {}
 
-    fn retire(&self, _worker: u16, _leg: &Retired) {}
+    fn retire(&self, _worker: WorkerId, _leg: &Retired) {}
 
     fn no_thread(&self) {}
 
-    fn wake(&self, _worker: u16) {}
+    fn wake(&self, _worker: WorkerId) {}
 }

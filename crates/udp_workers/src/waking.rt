@@ -2,16 +2,18 @@
 ghost use Rattle.std.specs.Prelude.{◌≡◌};
 
 use crate::turning::Turn;
+use call_book::PeerId;
 use exchange_core::{Gate, Pass, Watch};
 use peer_lock::LedgerSet;
+use peer_plan::WorkerId;
 use std::sync::Wait;
 
 // The greatest number of workers of a plan.
 const WORKERS: usize = 8;
 
 // Asks the watch to wake a worker, unless it was asked already.
-fn wake_once<V: Watch>(watch: &V, worker: u16, woken: &mut [bool; WORKERS]) {
-    let place = usize::from(worker);
+fn wake_once<V: Watch>(watch: &V, worker: WorkerId, woken: &mut [bool; WORKERS]) {
+    let place = worker.index();
     if place >= WORKERS || woken[place] {
         return;
     }
@@ -20,14 +22,13 @@ fn wake_once<V: Watch>(watch: &V, worker: u16, woken: &mut [bool; WORKERS]) {
 }
 
 // Asks the watch to wake each other worker at whose peers steps were made under the pass since the last call. They may have
-// put datagrams into outboxes that only that worker empties. The worker at this place of the plan, which serves these
-// peers, makes the turn.
+// put datagrams into outboxes that only that worker empties. This worker, which serves these peers, makes the turn.
 pub(crate) fn wake_others<V: Watch, G: Gate, J: LedgerSet, R: Wait>(
     turn: &Turn<'_, G, J, R>,
     pass: &mut Pass<J>,
     watch: &V,
     peers: &[u16],
-    place: u16,
+    worker: WorkerId,
 )
     ensures { pass.new ≡ pass.old }
 {
@@ -37,11 +38,12 @@ pub(crate) fn wake_others<V: Watch, G: Gate, J: LedgerSet, R: Wait>(
         return;
     }
     let mut woken = [false; WORKERS];
-    for peer in 0..plan.peer_count() {
+    for place in 0..plan.peer_count() {
+        let peer = PeerId::new(place);
         let is_unasked = pass.take_unasked(peer);
-        let worker = plan.worker(peer);
-        if is_unasked && worker != place {
-            wake_once(watch, worker, &mut woken);
+        let other = plan.worker(peer);
+        if is_unasked && other != worker {
+            wake_once(watch, other, &mut woken);
         }
     }
 }

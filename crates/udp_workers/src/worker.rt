@@ -3,8 +3,9 @@ ghost use Rattle.std.specs.Prelude.{◌≡◌, ◌<◌, ◌≤◌, IfOk, length}
 ghost use Rattle.udp_workers.specs.Served.{AreEndpoints, peers_of};
 
 use arrayvec::ArrayVec;
+use call_book::PeerId;
 use iax_frames::Out;
-use peer_plan::{Endpoint, Plan};
+use peer_plan::{Endpoint, Plan, WorkerId};
 use std::alloc::{AllocError, Global};
 use std::marker::Model;
 
@@ -12,7 +13,7 @@ use std::marker::Model;
 /// It takes no memory.
 #[derive(Drop)]
 pub struct Worker {
-    pub(crate) place: u16,
+    pub(crate) place: WorkerId,
     pub(crate) peers: ArrayVec<u16, 32>,
     pub(crate) turns: u64,
     // The datagram that is on its way from an outbox to the wire.
@@ -31,9 +32,8 @@ impl Model for Worker {
 }
 
 impl Worker {
-    /// Returns the worker at a place of the plan, which has made no turn yet. Its peers are those that name its place, in
-    /// plan order.
-    pub fn new(plan: &Plan, place: u16) -> Worker
+    /// Returns a worker of the plan, which has made no turn yet. Its peers are those that name its place, in plan order.
+    pub fn new(plan: &Plan, place: WorkerId) -> Worker
         requires { place < length plan.now.workers }
         ensures place { result.place ≡ place }
         ensures peers { result.peers ≡ peers_of plan.now place }
@@ -41,7 +41,7 @@ impl Worker {
     {
         let mut peers = ArrayVec::new();
         for peer in 0..plan.peer_count() {
-            if plan.worker(peer) == place {
+            if plan.worker(PeerId::new(peer)) == place {
                 peers.push(peer);
             }
         }
@@ -54,7 +54,7 @@ impl Worker {
     }
 
     /// Returns its place among the workers of the plan, from 0 on.
-    pub fn place(&self) -> u16
+    pub fn place(&self) -> WorkerId
         ensures { result ≡ self.now.place }
     {
         self.place
@@ -84,7 +84,7 @@ impl Worker {
     {
         let mut endpoints = Vec::new(alloc);
         for &peer in self.peers() {
-            endpoints.push(plan.endpoint(peer))?;
+            endpoints.push(plan.endpoint(PeerId::new(peer)))?;
         }
         Ok(endpoints)
     }

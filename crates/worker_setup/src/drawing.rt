@@ -3,7 +3,7 @@ ghost use Rattle.std.specs.Prelude.{◌≡◌, ◌≤◌, ◌<◌, ℕ, IfOk, le
 
 use crate::service_error::ServiceError;
 use call_auth::Challenge;
-use peer_plan::{Drawn, Plan};
+use peer_plan::{Drawn, PeerId, Plan};
 use rand::rngs::StdRng;
 use rand::{RngExt, make_rng};
 use rand_core::Rng;
@@ -56,8 +56,8 @@ pub fn with_drawn_key<R: RandomSource>(rt: &R, plan: Plan) -> Result<Plan, Servi
 
 // Returns whether a peer needs call tokens.
 fn asks_for_tokens(plan: &Plan) -> bool {
-    for peer in 0..plan.peer_count() {
-        if plan.call_tokens(peer).is_some() {
+    for place in 0..plan.peer_count() {
+        if plan.call_tokens(PeerId::new(place)).is_some() {
             return true;
         }
     }

@@ -11,6 +11,7 @@ use crate::sockets::{Sockets, wire_of};
 use crate::traced_wire::{TracedWire, lane_of};
 use exchange_core::Pass;
 use peer_lock::LedgerSet;
+use peer_plan::WorkerId;
 use rand::make_rng;
 use std::net::Net;
 use std::random::RandomSource;
@@ -33,7 +34,7 @@ fn tools_of<'t, R: Net + RandomSource + Wait, S: Sockets>(
     context: &SeatContext<'t, R>,
     sockets: &S,
     worker: &Worker,
-    place: u16,
+    place: WorkerId,
 ) -> Result<(TracedWire<'t, R>, Digits<'t, R>), ServiceError>
     requires place { place < length context.now.plan.now.workers }
     requires peers { worker.now.peers ≡ peers_of context.now.plan.now worker.now.place }
@@ -46,7 +47,7 @@ fn tools_of<'t, R: Net + RandomSource + Wait, S: Sockets>(
         trace,
         ..
     } = *context;
-    let thread = usize::from(place);
+    let thread = place.index();
     let lane = lane_of(alloc, trace, thread)?;
     let wire = wire_of(context, sockets, worker, place)?;
     let Ok(generator) = make_rng(rt) else {
@@ -76,7 +77,7 @@ fn tools_of<'t, R: Net + RandomSource + Wait, S: Sockets>(
 fn push_seat<'t, J: LedgerSet, P: PlanBrand, R: Clock + Net + RandomSource + Wait, S: Sockets>(
     context: &SeatContext<'t, R>,
     sockets: &S,
-    place: u16,
+    place: WorkerId,
     passes: &mut Vec<Pass<J>>,
     seats: &mut Vec<ServiceSeat<'t, R, J, P>>,
 ) -> Result<(), ServiceError>
@@ -95,7 +96,7 @@ fn push_seat<'t, J: LedgerSet, P: PlanBrand, R: Clock + Net + RandomSource + Wai
         opened: context.opened,
         last: 0,
         trace: context.trace,
-        thread: usize::from(place),
+        thread: place.index(),
     };
     let pass = passes.remove(0);
     seats.push_reserved(Seat::new(worker, wire, pass, moments, digits));
@@ -121,7 +122,8 @@ pub fn seats_of<'t, J: LedgerSet, P: PlanBrand, R: Clock + Net + RandomSource + 
     let count = context.plan.workers().len();
     let mut seats = Vec::with_capacity(context.alloc, count)?;
     for place in 0..count {
-        let pushed = push_seat::<J, P, R, S>(context, sockets, place as u16, passes, &mut seats);
+        let worker = WorkerId::new(place as u16);
+        let pushed = push_seat::<J, P, R, S>(context, sockets, worker, passes, &mut seats);
         if let Err(error) = pushed {
             return Err(error);
         }

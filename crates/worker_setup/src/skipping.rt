@@ -4,6 +4,7 @@ ghost use Rattle.std.specs.Prelude.{◌≤◌, ◌*◌, ◌^◌, IfOk};
 use crate::service_error::ServiceError;
 use exchange_core::{Exchange, NoGate, Pass};
 use peer_lock::LedgerSet;
+use peer_plan::PeerId;
 use rand::rngs::StdRng;
 use rand::{RngExt, make_rng};
 use std::random::RandomSource;
@@ -33,7 +34,7 @@ fn skip<J: LedgerSet, R: Wait>(
     rt: &R,
     exchange: &Exchange<NoGate, J>,
     pass: &mut Pass<J>,
-    peer: u16,
+    peer: PeerId,
     count: u16,
     trace: Option<&Trace>,
 ) {
@@ -61,7 +62,8 @@ pub fn skip_numbers<J: LedgerSet, R: RandomSource + Wait>(
     let Ok(mut generator) = make_rng::<StdRng, R>(rt) else {
         return Err(ServiceError::Entropy);
     };
-    for peer in 0..exchange.plan().peer_count() {
+    for place in 0..exchange.plan().peer_count() {
+        let peer = PeerId::new(place);
         let count = exchange.plan().range(peer).count;
         if count > 1 {
             let skips = generator.random_range(0..count);

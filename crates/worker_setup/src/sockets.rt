@@ -5,6 +5,7 @@ ghost use Rattle.udp_workers.specs.Served.{AreEndpoints, peers_of};
 
 use crate::seat_context::SeatContext;
 use crate::service_error::ServiceError;
+use peer_plan::WorkerId;
 use std::net::Net;
 use std::os::fd::RawFd;
 use udp_wires::{MioWire, Sharing, Wire, WireWaker};
@@ -22,9 +23,9 @@ pub trait Sockets {
     /// Returns whether workers of one endpoint share it. If they don't, binding the second of them fails.
     fn are_shared(&self) -> bool;
 
-    /// Sets up the socket with this descriptor of the worker at this place of the plan. `room` is its share of the worker's
-    /// receive buffers, in octets. Returns the size of the buffer that the system grants, in octets, if it was asked for.
-    fn set_up(&self, place: u16, descriptor: RawFd, room: u32) -> Option<u64>;
+    /// Sets up the socket of this worker, which has this descriptor. `room` is its share of the worker's receive buffers, in
+    /// octets. Returns the size of the buffer that the system grants, in octets, if it was asked for.
+    fn set_up(&self, worker: WorkerId, descriptor: RawFd, room: u32) -> Option<u64>;
 
     /// Sets up a socket with this descriptor, at a worker's endpoint, that is connected to one of its peers. It has the
     /// same share.
@@ -33,9 +34,9 @@ pub trait Sockets {
     /// Returns whether a worker is woken when others have filled outboxes of its peers. If not, its wire gives no waker.
     fn are_woken(&self) -> bool;
 
-    /// Keeps the waker of the worker at this place of the plan. `None` means that the system gives no eventfd; then the
-    /// wire waits as one without a waker.
-    fn keep_waker(&self, place: u16, waker: Option<WireWaker>);
+    /// Keeps the waker of this worker. `None` means that the system gives no eventfd; then the wire waits as one without a
+    /// waker.
+    fn keep_waker(&self, worker: WorkerId, waker: Option<WireWaker>);
 }
 
 /// Sockets that are bound alone and aren't set up further. No worker is woken.
@@ -47,7 +48,7 @@ impl Sockets for PlainSockets {
         false
     }
 
-    fn set_up(&self, _place: u16, _descriptor: RawFd, _room: u32) -> Option<u64> {
+    fn set_up(&self, _worker: WorkerId, _descriptor: RawFd, _room: u32) -> Option<u64> {
         None
     }
 
@@ -57,7 +58,7 @@ impl Sockets for PlainSockets {
         false
     }
 
-    fn keep_waker(&self, _place: u16, _waker: Option<WireWaker>) {}
+    fn keep_waker(&self, _worker: WorkerId, _waker: Option<WireWaker>) {}
 }
 
 /// Returns the share of a worker's receive buffers for each of its sockets, in octets. The worker has its own socket and
@@ -81,18 +82,18 @@ fn links_of(wire: &MioWire) -> u32 {
 }
 
 // Sets up the sockets of a wire, and keeps its waker if workers are woken.
-fn set_up_all<S: Sockets>(sockets: &S, place: u16, wire: &mut MioWire)
+fn set_up_all<S: Sockets>(sockets: &S, worker: WorkerId, wire: &mut MioWire)
     ensures { wires.peers_of wire.new ≡ wires.peers_of wire.old }
 {
     let room = room_of(links_of(wire));
-    let _waiting = sockets.set_up(place, wire.descriptor(), room);
+    let _waiting = sockets.set_up(worker, wire.descriptor(), room);
     for peer in 0..wire.peers().len() {
         if let Some(descriptor) = wire.link_descriptor(peer) {
             sockets.set_up_link(descriptor, room);
         }
     }
     if sockets.are_woken() {
-        sockets.keep_waker(place, wire.waker());
+        sockets.keep_waker(worker, wire.waker());
     }
 }
 
@@ -103,7 +104,7 @@ pub(crate) fn wire_of<N: Net, S: Sockets>(
     context: &SeatContext<'_, N>,
     sockets: &S,
     worker: &Worker,
-    place: u16,
+    place: WorkerId,
 ) -> Result<MioWire, ServiceError>
     requires place { place < length context.now.plan.now.workers }
     requires peers { worker.now.peers ≡ peers_of context.now.plan.now worker.now.place }
@@ -122,7 +123,7 @@ pub(crate) fn wire_of<N: Net, S: Sockets>(
     } else {
         Sharing::Alone
     };
-    let mut wire = MioWire::bind(rt, alloc, workers[usize::from(place)], endpoints, sharing)?;
+    let mut wire = MioWire::bind(rt, alloc, workers[place.index()], endpoints, sharing)?;
     set_up_all(sockets, place, &mut wire);
     Ok(wire)
 }

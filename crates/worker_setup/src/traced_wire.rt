@@ -2,7 +2,7 @@
 ghost use Rattle.udp_wires.specs.MioWire as wires;
 
 use crate::service_error::ServiceError;
-use peer_plan::{Endpoint, Plan};
+use peer_plan::{Endpoint, PeerId, Plan};
 use std::alloc::Global;
 use std::sync::Wait;
 use trace_writer::{Trace, TraceLane};
@@ -58,17 +58,17 @@ impl<'t, R: Wait> Wire for TracedWire<'t, R> {
         found
     }
 
-    fn note_taken(&mut self, from: Endpoint, octets: &[u8]) {
+    fn note_taken(&mut self, peer: Option<PeerId>, from: Endpoint, octets: &[u8]) {
         if let Some(lane) = &mut self.lane {
             lane.be_in_turn(self.rt);
-            lane.datagram(self.rt, self.plan.peer_of(from), from, octets);
+            lane.datagram(self.rt, peer, from, octets);
         }
     }
 
     fn send(&mut self, to: Endpoint, octets: &[u8]) -> Result<bool, WireFault> {
         let sent = self.wire.send(to, octets);
         if let Some(lane) = &mut self.lane {
-            if let Some(peer) = self.plan.peer_of(to) {
+            if let Some(peer) = self.plan.peer_at(to) {
                 lane.send(self.rt, peer, matches!(sent, Ok(true)));
             }
         }

@@ -1,7 +1,7 @@
 //! An exchange of two peers, `west` and `east`, and a pass of it, as a test steps it.
 
 use call_auth::Challenge;
-use call_book::LegName;
+use call_book::{LegName, PeerId};
 use exchange_core::{Answer, Exchange, Gate, Pass, Refusal, Rejection};
 use iax_frames::Out;
 use peer_lock::{LedgerSet, OrderError, Status};
@@ -72,7 +72,10 @@ impl<R: Wait, G: Gate, J: LedgerSet> Desk<'_, R, G, J> {
         if peer >= self.exchange.plan().peer_count() {
             return None;
         }
-        Some(told_by(self.exchange.tick(self.rt, self.pass, peer, now)))
+        Some(told_by(
+            self.exchange
+                .tick(self.rt, self.pass, PeerId::new(peer), now),
+        ))
     }
 
     /// Hangs up a leg. Returns the refusal, if there is one.
@@ -88,7 +91,8 @@ impl<R: Wait, G: Gate, J: LedgerSet> Desk<'_, R, G, J> {
         if peer >= self.exchange.plan().peer_count() {
             return None;
         }
-        self.exchange.take_out(self.rt, self.pass, peer)
+        self.exchange
+            .take_out(self.rt, self.pass, PeerId::new(peer))
     }
 
     /// Returns the status of the leg of a number, at any peer, or `None` if there is none.
@@ -97,7 +101,8 @@ impl<R: Wait, G: Gate, J: LedgerSet> Desk<'_, R, G, J> {
         if peer >= self.exchange.plan().peer_count() {
             return None;
         }
-        self.exchange.status(self.rt, self.pass, peer, number)
+        self.exchange
+            .status(self.rt, self.pass, PeerId::new(peer), number)
     }
 }
 

@@ -10,7 +10,7 @@ use layer_tests::frames::WEST_NEW;
 use layer_tests::plans::NO_TRUNKS;
 use media_ledger::Blank;
 use peer_lock::{LedgerSet, Losses, Service};
-use peer_plan::Plan;
+use peer_plan::{PeerId, Plan};
 use std::alloc::Global;
 use std::marker::Brand;
 use std::process::Abort;
@@ -37,7 +37,7 @@ fn losses_at_west<R: Abort + Wait, J: LedgerSet>(
         WEST_PLACE < exchange.plan().peer_count(),
         "the peer in the west"
     );
-    losses_of(rt, exchange, desk.pass, WEST_PLACE)
+    losses_of(rt, exchange, desk.pass, PeerId::new(WEST_PLACE))
 }
 
 // Loses datagrams in an exchange of a plan over two ledgers.

@@ -13,7 +13,7 @@ use crate::tests::steps_by_hand::compared::{compare_ends, play_lines};
 use crate::tests::steps_by_hand::lines::COUNT;
 use crate::tests::steps_by_hand::plain::{Peers, Plain};
 use call_auth::Challenge;
-use call_book::CallBook;
+use call_book::{CallBook, PeerId};
 use exchange_core::{Exchange, NoGate};
 use layer_tests::plans::ONE_WORKER;
 use media_ledger::{Blank, Share, supply};
@@ -60,7 +60,15 @@ fn state_of<J: LedgerSet>(
 {
     assert!(rt; peer < 2 && peer < plan.peer_count(), "a peer of the plan");
     let first = 4 * peer + 1;
-    let state = PeerState::new(alloc, peer, plan.rules(peer), first, 4, octets, steps);
+    let state = PeerState::new(
+        alloc,
+        peer,
+        plan.rules(PeerId::new(peer)),
+        first,
+        4,
+        octets,
+        steps,
+    );
     state.ok().expect(rt, "a peer")
 }
 

@@ -1,11 +1,11 @@
 //! The book of calls.
 use crate::tests::same::same;
-use call_book::{BridgeError, CallBook, Lease, ReserveError};
+use call_book::{BridgeError, CallBook, Lease, PeerId, ReserveError};
 use std::process::Abort;
 
 // Returns the number of the next lease of the first peer, which is never returned.
 fn next_number(book: &mut CallBook) -> Result<u16, ReserveError> {
-    match book.reserve(0) {
+    match book.reserve(PeerId::new(0)) {
         Ok(lease) => Ok(lease.name().number),
         Err(error) => Err(error),
     }
@@ -28,7 +28,7 @@ fn numbers_until_serials_are_spent(rt: HostRuntime) {
 
 // Returns the next lease of the first peer, under this number.
 fn lease_of(rt: &impl Abort, book: &mut CallBook, number: u16) -> Lease {
-    let lease = book.reserve(0).expect(rt, "a number");
+    let lease = book.reserve(PeerId::new(0)).expect(rt, "a number");
     same(rt, &lease.name().number, &number);
     lease
 }

@@ -14,6 +14,7 @@ use crate::peer::{Credentials, Limits, Media, Peer};
 use crate::reading::fields::{flag_at, list_at, number_at};
 use crate::reading::media::media;
 use crate::reading::texts::{credentials, endpoint, name_at};
+use crate::worker_id::WorkerId;
 use call_auth::CallTokens;
 use call_signals::PeerRules;
 use std::alloc::Global;
@@ -148,7 +149,7 @@ fn peer(table: &Table, format: u64, limits: Limits, workers: u64) -> Result<Peer
     Ok(Peer {
         name,
         endpoint,
-        worker: worker as u16,
+        worker: WorkerId::new(worker as u16),
         rules: rules_from(
             format,
             limits,

@@ -13,6 +13,7 @@ use crate::reading::texts::{is_prefix, text_at};
 use crate::route::Route;
 use crate::routes::Routes;
 use crate::short_text::ShortText;
+use call_book::PeerId;
 use std::alloc::{AllocError, Global};
 use toml::{Table, Value};
 
@@ -26,7 +27,7 @@ fn peer_named(peers: &[Peer], name: &str) -> Option<usize>
 
 // Returns the peer for whose calls a route is, if the value names one.
 #[tactic(auto, unfolding(crate::specs::Reading::source_at))]
-fn source_at(found: Option<&Value>, peers: &[Peer]) -> Result<Option<u16>, PlanError>
+fn source_at(found: Option<&Value>, peers: &[Peer]) -> Result<Option<PeerId>, PlanError>
     requires { length peers.now ≤ 32 }
     ensures { result ≡ source_at peers.now (option_map (λ x. view x.now) found.entry) }
 {
@@ -35,11 +36,11 @@ fn source_at(found: Option<&Value>, peers: &[Peer]) -> Result<Option<u16>, PlanE
     };
     let name = found.as_str().ok_or(PlanError::Range(Key::Source))?;
     let source = peer_named(peers, name).ok_or(PlanError::UnknownPeer)?;
-    Ok(Some(source as u16))
+    Ok(Some(PeerId::new(source as u16)))
 }
 
 // Returns the peer for whose calls a route of a plan is, if it names one.
-fn source(table: &Table, format: u64, peers: &[Peer]) -> Result<Option<u16>, PlanError>
+fn source(table: &Table, format: u64, peers: &[Peer]) -> Result<Option<PeerId>, PlanError>
     requires { length peers.now ≤ 32 }
     ensures { result ≡ source_in format peers.now (table_view table.now) }
 {
@@ -66,7 +67,7 @@ fn route(table: &Table, format: u64, peers: &[Peer]) -> Result<Route, PlanError>
     Ok(Route {
         prefix: ShortText::new(prefix),
         source,
-        peer: peer as u16,
+        peer: PeerId::new(peer as u16),
     })
 }
 

@@ -5,10 +5,14 @@ use Rattle.exchange_report.proofs.peer_names.peer_named.Goals as goal
 
 pub returns-then-eq-clause-place : goal.returns-then-eq-clause-place
 returns-then-eq-clause-place c =
-    let at = named_at c.args.name.now c.name.result.now c.args.plan.now.peers c.loop-peer.peer c.name.ensures in
+    let at = named_at c.args.name.now c.name.result.now c.args.plan.now.peers c.loop-place.place
+    (rw c.new-peer.ensures at c.name.ensures) in
+    let is = c.new-peer.ensures in
     grind (arith, common_steps)
 
-pub loop-peer-preserved : goal.loop-peer-preserved
-loop-peer-preserved c =
-    let at = named_at c.args.name.now c.name.result.now c.args.plan.now.peers c.loop-peer.peer c.name.ensures in
+pub loop-place-preserved : goal.loop-place-preserved
+loop-place-preserved c =
+    let at = named_at c.args.name.now c.name.result.now c.args.plan.now.peers c.loop-place.place
+    (rw c.new-peer.ensures at c.name.ensures) in
+    let is = c.new-peer.ensures in
     grind (arith, common_steps)

@@ -5,7 +5,7 @@ use crate::tests::same::{holds, same};
 use crate::tests::steps_by_hand::lines::{COUNT, LINES, Line};
 use crate::tests::steps_by_hand::made::{Given, Gone, Made};
 use crate::tests::steps_by_hand::plain::Plain;
-use call_book::{CallBook, LegName};
+use call_book::{CallBook, LegName, PeerId};
 use call_control::Work;
 use exchange_core::{Answer, CallError, Exchange, Gate, Pass, Refusal, Retired, Settlement};
 use peer_lock::{ClosedPeer, LedgerSet, OrderError};
@@ -106,7 +106,7 @@ fn hear<R: Abort + Wait, G: Gate, J: LedgerSet, K: LedgerSet>(
         called: None,
         now,
     };
-    let made = plain.carry_out(desk.rt, Work::of_datagram(peer), &given);
+    let made = plain.carry_out(desk.rt, Work::of_datagram(PeerId::new(peer)), &given);
     compare(desk.rt, &answer, &made, now);
 }
 
@@ -122,7 +122,7 @@ fn place<R: Abort + Wait, G: Gate, J: LedgerSet, K: LedgerSet>(
         EAST_PLACE < exchange.plan().peer_count(),
         "the peer in the east"
     );
-    let placed = exchange.call(rt, desk.pass, EAST_PLACE, called, now);
+    let placed = exchange.call(rt, desk.pass, PeerId::new(EAST_PLACE), called, now);
     if called.len() > 64 {
         same(rt, &placed.err(), &Some(CallError::BadNumber));
         return;
@@ -132,7 +132,7 @@ fn place<R: Abort + Wait, G: Gate, J: LedgerSet, K: LedgerSet>(
         called: Some(called),
         now,
     };
-    let made = plain.carry_out(rt, Work::of_call(EAST_PLACE), &given);
+    let made = plain.carry_out(rt, Work::of_call(PeerId::new(EAST_PLACE)), &given);
     match placed {
         Ok(name) => {
             same(rt, &made.named, &Some(name));
@@ -182,14 +182,14 @@ fn tick<R: Abort + Wait, G: Gate, J: LedgerSet, K: LedgerSet>(
 ) {
     let (rt, exchange) = (desk.rt, desk.exchange);
     assert!(rt; peer < exchange.plan().peer_count(), "a peer of the plan");
-    let answer = exchange.tick(rt, desk.pass, peer, now);
+    let answer = exchange.tick(rt, desk.pass, PeerId::new(peer), now);
     let first = if peer == WEST_PLACE { 1 } else { 5 };
     let given = Given {
         octets: &[],
         called: None,
         now,
     };
-    let made = plain.carry_out(rt, Work::of_tick(peer, first, 4), &given);
+    let made = plain.carry_out(rt, Work::of_tick(PeerId::new(peer), first, 4), &given);
     compare(rt, &answer, &made, now);
 }
 
@@ -325,7 +325,7 @@ fn compare_peers<J: LedgerSet, K: LedgerSet>(
 
 // Reserves the next name of a peer in a book.
 fn next_name(book: &mut CallBook, peer: u16) -> Option<LegName> {
-    match book.reserve(peer) {
+    match book.reserve(PeerId::new(peer)) {
         Ok(lease) => Some(lease.name()),
         Err(_) => None,
     }

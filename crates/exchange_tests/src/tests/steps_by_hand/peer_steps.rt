@@ -7,7 +7,7 @@ ghost use Rattle.peer_lock.specs.Unworked.{IsCutFrame};
 
 use crate::tests::steps_by_hand::made::{Given, Gone};
 use crate::tests::steps_by_hand::plain::Plain;
-use call_book::LegName;
+use call_book::{LegName, PeerId};
 use call_control::{Act, Heard, Need, Reply, Work};
 use iax_frames::{Datagram, Full, read};
 use info_elements::elements;
@@ -62,7 +62,7 @@ fn order_of<'a>(rt: &impl Abort, act: Act, octets: &'a [u8]) -> Order<'a> {
 /// Returns the formats of a peer.
 pub fn formats_of(rt: &impl Abort, plan: &Plan, peer: u16) -> Formats {
     assert!(rt; peer < plan.peer_count(), "a peer of the plan");
-    plan.rules(peer).formats
+    plan.rules(PeerId::new(peer)).formats
 }
 
 // Counts the octets of media in an order: none, or 1 to 1,380.
@@ -192,18 +192,18 @@ impl<J: LedgerSet> Plain<'_, J> {
     /// Makes the named step of a peer.
     pub fn steps(&mut self, rt: &impl Abort, need: Need, work: &Work, given: &Given<'_>) -> Reply {
         match need {
-            Need::Datagram(peer) => Reply::Datagram(self.hears(peer, given)),
+            Need::Datagram(peer) => Reply::Datagram(self.hears(peer.get(), given)),
             Need::OpenIn(name) => Reply::OpenIn(self.opens_in(rt, name.peer, given)),
-            Need::RejectNew(peer) => Reply::RejectNew(self.rejects(rt, peer, given.octets)),
+            Need::RejectNew(peer) => Reply::RejectNew(self.rejects(rt, peer.get(), given.octets)),
             Need::OpenOut(name) => {
                 Reply::OpenOut(self.opens_out(rt, name.peer, work.offer(), given))
             }
             Need::Order(name, act) => Reply::Order(self.orders(rt, name, act, given)),
             Need::Tick(peer) => {
-                let report = self.peers.at(peer).tick(&mut self.pass, given.now);
+                let report = self.peers.at(peer.get()).tick(&mut self.pass, given.now);
                 Reply::Tick(report.map(|report| report.is_quiet))
             }
-            Need::Look(peer, number) => Reply::Look(self.peers.at(peer).look(number)),
+            Need::Look(peer, number) => Reply::Look(self.peers.at(peer.get()).look(number)),
             Need::Retire(name) => Reply::Retire(self.retires(name)),
             _ => panic!(rt; "a step of a peer"),
         }

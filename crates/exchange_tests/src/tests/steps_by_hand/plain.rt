@@ -4,7 +4,7 @@ use crate::tests::desk::WEST_PLACE;
 use crate::tests::steps_by_hand::made::{Given, Gone, Made};
 use crate::tests::steps_by_hand::peer_steps::formats_of;
 use call_auth::Challenge;
-use call_book::{CallBook, Lease, LegName};
+use call_book::{CallBook, Lease, LegName, PeerId};
 use call_control::{Need, Reply, Route, Work};
 use iax_frames::Out;
 use peer_lock::{ClosedPeer, LedgerSet, Offer, Pass, PeerState, Status};
@@ -51,18 +51,18 @@ impl<J: LedgerSet> Plain<'_, J> {
         let Some(offer) = offer else {
             return Route::Nowhere;
         };
-        let Some(peer) = self.plan.route(offered.peer, offer.called.as_slice()) else {
+        let Some(peer) = self.plan.route(offered.owner(), offer.called.as_slice()) else {
             return Route::Nowhere;
         };
         let formats = formats_of(rt, self.plan, peer);
         match offer.formats.of_both(formats).among(offer.format) {
-            Some(format) => Route::To(peer, format),
+            Some(format) => Route::To(PeerId::new(peer), format),
             None => Route::WithoutFormat,
         }
     }
 
     // Reserves a name of a peer. The call holds its lease from now on.
-    fn reserves(&mut self, peer: u16) -> Reply {
+    fn reserves(&mut self, peer: PeerId) -> Reply {
         match self.book.reserve(peer) {
             Ok(lease) => {
                 let name = lease.name();

@@ -9,7 +9,7 @@ use call_auth::Challenge;
 use exchange_core::{Exchange, Gate, Pass};
 use layer_tests::plans::TWO_WORKERS;
 use peer_lock::LedgerSet;
-use peer_plan::Plan;
+use peer_plan::{Plan, WorkerId};
 use std::alloc::Global;
 use std::process::Abort;
 use std::sync::Wait;
@@ -41,18 +41,18 @@ impl Challenges for Zero {
 // A seat over a wire in memory.
 type TestSeat<J, P> = Seat<MemoryWire, AtOnce, Zero, J, P>;
 
-// Returns the seat of the worker at a place of a plan, over a wire in memory.
+// Returns the seat of a worker of a plan, over a wire in memory.
 fn seat_of<J: LedgerSet, P: PlanBrand>(
     rt: &impl Abort,
     alloc: Global,
     plan: &Plan,
-    place: u16,
+    worker: WorkerId,
     pass: Pass<J>,
 ) -> TestSeat<J, P>
     requires plan { plan.now ≡ P.plan }
-    requires place { place < length plan.now.workers }
+    requires worker { worker < length plan.now.workers }
 {
-    let worker = Worker::new(plan, place);
+    let worker = Worker::new(plan, worker);
     let wire = wire_of(rt, alloc, plan, &worker, 0);
     let challenge = Challenge::new(b"0").expect(rt, "a challenge");
     Seat::new(worker, wire, pass, AtOnce, Zero(challenge))
@@ -70,7 +70,7 @@ fn seats_of<J: LedgerSet, P: PlanBrand>(
     let mut seats = Vec::new(alloc);
     for place in 0..plan.workers().len() {
         let pass = passes.pop().expect(rt, "a pass");
-        let seat = seat_of(rt, alloc, plan, place as u16, pass);
+        let seat = seat_of(rt, alloc, plan, WorkerId::new(place as u16), pass);
         seats.push(seat).expect(rt, "room for a seat");
     }
     seats

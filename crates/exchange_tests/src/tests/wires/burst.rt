@@ -12,6 +12,7 @@ use call_auth::Challenge;
 use exchange_core::{Exchange, Gate, NoGate, Pass};
 use layer_tests::plans::{NO_TRUNKS, SILENT_THIRD};
 use peer_lock::{LedgerSet, Losses};
+use peer_plan::{PeerId, WorkerId};
 use std::alloc::{AllocError, Global};
 use std::process::Abort;
 use std::sync::Wait;
@@ -83,7 +84,7 @@ pub fn play_burst<G: Gate, J: LedgerSet, R: Abort + Wait>(
     let challenge = Challenge::new(b"0").expect(rt, "a challenge");
     let _workers = exchange.plan().workers();
     let _peers = exchange.plan().peer_count();
-    let mut worker = Worker::new(exchange.plan(), 0);
+    let mut worker = Worker::new(exchange.plan(), WorkerId::new(0));
     let mut wire = wire_of(rt, alloc, exchange.plan(), &worker, 0);
     play_up(rt, exchange, pass, &mut worker, &mut wire, &challenge);
     wire.put_often(EAST, trunk_frame(alloc).expect(rt, "a frame"), FRAMES);
@@ -114,7 +115,7 @@ pub fn play_burst<G: Gate, J: LedgerSet, R: Abort + Wait>(
     Taken {
         received: report.received,
         steps: pass.steps().wrapping_sub(first),
-        lost: exchange.lost(rt, pass, 0),
+        lost: exchange.lost(rt, pass, PeerId::new(0)),
     }
 }
 

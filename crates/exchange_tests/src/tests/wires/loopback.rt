@@ -11,7 +11,7 @@ use exchange_core::{Exchange, Gate, NoGate, Pass};
 use layer_tests::plans::ONE_WORKER;
 use mio::net::UdpSocket;
 use peer_lock::LedgerSet;
-use peer_plan::{Endpoint, Plan};
+use peer_plan::{Endpoint, Plan, WorkerId};
 use std::alloc::Global;
 use std::net::{IpAddr, Ipv4Addr, Net, SocketAddr};
 use std::process::Abort;
@@ -113,7 +113,7 @@ pub fn call_first<G: Gate, J: LedgerSet, R: Abort + Net + Wait>(
     let pass = passes.first_mut().expect(rt, "a pass");
     let challenge = Challenge::new(b"0").expect(rt, "a challenge");
     let at = *exchange.plan().workers().first().expect(rt, "a worker");
-    let mut worker = Worker::new(exchange.plan(), 0);
+    let mut worker = Worker::new(exchange.plan(), WorkerId::new(0));
     let mut wire = wire_of(rt, alloc, exchange.plan(), &worker, at);
     let caller = caller_at(rt, at);
     let is_heard = turn_until_rejected(

@@ -12,7 +12,7 @@ use call_auth::Challenge;
 use exchange_core::{Exchange, Gate, NoGate, Pass, Retired};
 use layer_tests::plans::TWO_WORKERS;
 use peer_lock::LedgerSet;
-use peer_plan::Plan;
+use peer_plan::{Plan, WorkerId};
 use std::alloc::Global;
 use std::process::Abort;
 use std::sync::Wait;
@@ -53,12 +53,12 @@ impl Watch for Wakes {
 
     fn tell(&self, _event: Event) {}
 
-    fn retire(&self, _worker: u16, _leg: &Retired) {}
+    fn retire(&self, _worker: WorkerId, _leg: &Retired) {}
 
     fn no_thread(&self) {}
 
-    fn wake(&self, worker: u16) {
-        let count = if worker == 0 {
+    fn wake(&self, worker: WorkerId) {
+        let count = if worker == WorkerId::new(0) {
             &self.first
         } else {
             &self.second
@@ -75,19 +75,19 @@ struct Side<J: LedgerSet> {
     pass: Pass<J>,
 }
 
-// Returns the worker at a place of a plan.
+// Returns a worker of a plan.
 fn side_of<J: LedgerSet>(
     rt: &impl Abort,
     alloc: Global,
     plan: &Plan,
-    place: u16,
+    worker: WorkerId,
     pass: Pass<J>,
 ) -> Side<J>
-    requires { place < length plan.now.workers }
+    requires { worker < length plan.now.workers }
     ensures peers { result.worker.peers ≡ peers_of plan.now result.worker.place }
     ensures wire { AreEndpoints plan.now result.worker.peers result.wire.peers.endpoints.items }
 {
-    let worker = Worker::new(plan, place);
+    let worker = Worker::new(plan, worker);
     let wire = wire_of(rt, alloc, plan, &worker, 0);
     Side { worker, wire, pass }
 }
@@ -157,8 +157,20 @@ pub fn play_waking<G: Gate, J: LedgerSet, R: Abort + Wait>(
     if plan.workers().len() != 2 {
         panic!(rt; "two workers");
     }
-    let mut west = side_of(rt, alloc, plan, 0, passes.pop().expect(rt, "a pass"));
-    let mut east = side_of(rt, alloc, plan, 1, passes.pop().expect(rt, "a pass"));
+    let mut west = side_of(
+        rt,
+        alloc,
+        plan,
+        WorkerId::new(0),
+        passes.pop().expect(rt, "a pass"),
+    );
+    let mut east = side_of(
+        rt,
+        alloc,
+        plan,
+        WorkerId::new(1),
+        passes.pop().expect(rt, "a pass"),
+    );
     bring_up(rt, exchange, &mut west, &mut east);
     let watch = Wakes::none();
     let frame = MINI_FRAME.2.to_vec(alloc).expect(rt, "a frame");

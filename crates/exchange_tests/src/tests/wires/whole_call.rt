@@ -11,6 +11,7 @@ use call_auth::Challenge;
 use exchange_core::{Exchange, Gate, NoGate, Pass};
 use layer_tests::plans::ONE_WORKER;
 use peer_lock::LedgerSet;
+use peer_plan::WorkerId;
 use std::alloc::Global;
 use std::net::Net;
 use std::process::Abort;
@@ -90,7 +91,7 @@ pub fn play_call<G: Gate, J: LedgerSet, R: Abort + Wait>(
     let pass = passes.first_mut().expect(rt, "a pass");
     let challenge = Challenge::new(b"0").expect(rt, "a challenge");
     let _workers = exchange.plan().workers();
-    let mut worker = Worker::new(exchange.plan(), 0);
+    let mut worker = Worker::new(exchange.plan(), WorkerId::new(0));
     let mut wire = wire_of(rt, alloc, exchange.plan(), &worker, fails_at);
     let (report, counted) = play_arrivals(rt, exchange, pass, &mut worker, &mut wire, &challenge);
     Played {

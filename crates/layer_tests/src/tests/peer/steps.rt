@@ -6,7 +6,7 @@ use crate::tests::leg::{Wish, octets_of, order_of};
 use crate::tests::peer::desk::{Desk, opening_of};
 use crate::tests::same::{Place, holds_at};
 use call_auth::Challenge;
-use call_book::{Lease, LegName};
+use call_book::{Lease, LegName, PeerId};
 use iax_frames::Full;
 use leg_machine::{Judged, MediaSpan, Order, Signal, Stage};
 use peer_lock::{LedgerSet, OpenError, OrderError, PeerError, Step as Stepped};
@@ -74,7 +74,7 @@ impl<J: LedgerSet> Desk<J> {
         let octets = octets_of(rt, self.alloc, text);
         let frame = opening_of(&octets).expect(rt, "a NEW");
         let challenge = Challenge::new(b"a").expect(rt, "a challenge");
-        let lease = self.book.reserve(0).expect(rt, "a number");
+        let lease = self.book.reserve(PeerId::new(0)).expect(rt, "a number");
         let name = lease.name();
         self.opens_at_last(&frame, lease, &challenge) == Some(name)
     }

@@ -1,5 +1,5 @@
 use Rattle.std.specs.Prelude.{All, IfSome, None, Option, Some, option_map, slice_get}
-use Rattle.std.proofs.Common.{Bor, ◌≡◌, ◌∙◌, ℕ, subst}
+use Rattle.std.proofs.Common.{Bor, rules, ◌≡◌, ◌∙◌, ℕ, subst}
 use Rattle.exchange_core.specs.Leaving.{departure_of}
 use Rattle.exchange_core.specs.declared.answers.Retired.{Retired}
 use Rattle.peer_lock.specs.declared.steps.Rejection.{Rejection}
@@ -26,24 +26,23 @@ rejection_told told plan from peer answer since found each same = subst (TellsRe
 
 pub returns-clause-rejected : goal.returns-clause-rejected
 returns-clause-rejected g c =
-    let found =
-    subst (λ (p : PlanView). option_map (λ peer. peer.endpoint) (slice_get p.peers c.in-Some.peer) ≡ Some c.args.from)
-    c.plan.ensures c.in-Some.ensures.found in
+    let found : option_map (λ peer. peer.endpoint) (slice_get c.args.turn.now.exchange.now.peers c.in-Some.peer) ≡
+    Some c.args.from = search rules in
     let each =
-    subst (λ (w : Bor g.row.V.Denot). IfSome c.datagram-answer.result.rejected
+    subst (λ (w : Bor g.row.V.Denot). IfSome c.datagram_of-answer.result.rejected
     (λ reported. g.V.Watch.told w.now (events.Rejected c.in-Some.peer reported)))
     c.tell-2.ensures.watch c.tell_outcome.ensures.rejected in
     rejection_told (g.V.Watch.told c.args.tally.now.watch.now) c.args.turn.now.exchange.now c.args.from c.in-Some.peer
-    c.datagram-answer.result.rejected _ found each
-    c.datagram-answer.ensures.rejected
+    c.datagram_of-answer.result.rejected _ found each
+    c.datagram_of-answer.ensures.rejected
 
 pub returns-clause-handed : goal.returns-clause-handed
 returns-clause-handed g c =
     let same : c.tell_outcome.new.self.watch ≡ c.args.tally.now.watch = c.tell_outcome.ensures.watch ∙ c.tell-2.ensures.watch in
     let each = subst (All (λ (leg : Retired). g.V.Watch.given c.tell_outcome.new.self.watch.now (departure_of leg)))
     c.deref.ensures.value c.tell_retired.ensures.given in
-    leave_gives (g.V.Watch.given c.args.tally.now.watch.now) c.args.turn.now.time c.args.pass.now c.datagram-answer.new.pass
-    c.datagram-answer.result.retired.items
-    c.datagram-answer.ensures.retired
+    leave_gives (g.V.Watch.given c.args.tally.now.watch.now) c.args.turn.now.time c.args.pass.now c.datagram_of-answer.new.pass
+    c.datagram_of-answer.result.retired.items
+    c.datagram_of-answer.ensures.retired
     (subst (λ (w : Bor g.row.V.Denot). All (λ (leg : Retired). g.V.Watch.given w.now (departure_of leg))
-    c.datagram-answer.result.retired.items) same each)
+    c.datagram_of-answer.result.retired.items) same each)

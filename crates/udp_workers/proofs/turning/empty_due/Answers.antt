@@ -15,7 +15,8 @@ send_if_due-is_full-requires-clause-to g c κs within =
     let peers = c.args.peers.now in
     let to = c.endpoint-to.result in
     let at : endpoint_at c.args.turn.now.exchange.now (get_or peers l.peer-index 0) ≡ Some to =
-    ap (λ plan. endpoint_at plan (get_or peers l.peer-index 0)) (sym c.plan.ensures) ∙ c.endpoint-to.ensures in
+    ap (λ plan. endpoint_at plan (get_or peers l.peer-index 0)) (sym c.plan.ensures)
+    ∙ (rw c.new-peer.ensures at c.endpoint-to.ensures) in
     subst (λ ends. Contains ends to) (sym l.invariant.peers) (endpoint_among c.args.turn.now.exchange.now peers _ l.peer-index to
     c.requires.wire c.loop-peer-test.true at)
 
@@ -27,7 +28,8 @@ loop-peer-preserved g c =
     let ends = g.W.Wire.peers c.args.wire.now in
     let to = c.endpoint-to.result in
     let at : endpoint_at c.args.turn.now.exchange.now (get_or peers l.peer-index 0) ≡ Some to =
-    ap (λ plan. endpoint_at plan (get_or peers l.peer-index 0)) (sym c.plan.ensures) ∙ c.endpoint-to.ensures in
+    ap (λ plan. endpoint_at plan (get_or peers l.peer-index 0)) (sym c.plan.ensures)
+    ∙ (rw c.new-peer.ensures at c.endpoint-to.ensures) in
     let there : slice_get ends l.peer-index ≡ Some to = endpoint_there c.args.turn.now.exchange.now peers ends l.peer-index to
     c.requires.wire c.loop-peer-test.true at in
     let first = g.W.Wire.given_to c.args.wire.now in
@@ -63,5 +65,5 @@ loop-peer-preserved g c =
           (empties_more c.args.turn.now.exchange.now c.args.turn.now.all (take l.peer-index peers) (get_or peers l.peer-index 0)
           to c.args.pass.now l.pass gone.new.pass
           (g.W.Wire.went c.args.wire.now) (g.W.Wire.went l.wire) (g.W.Wire.went gone.new.wire) l.invariant.empties at
-          gone.ensures.empties);
+          (rw c.new-peer.ensures at gone.ensures.empties));
     }

@@ -17,7 +17,7 @@ loop-peer-preserved g c =
     let new = made.new.pass in
     let is = made.ensures in
     let ticked = due_more plan now all (take l.peer-index peers) (get_or peers l.peer-index 0) c.args.pass.now l.pass new
-    l.invariant.ticked is.ticked in
+    l.invariant.ticked (rw c.new.ensures at made.ensures.ticked) in
     record {
       steps = omega arith;
       ticked = subst (λ first. TicksDue plan now all first c.args.pass.now new)

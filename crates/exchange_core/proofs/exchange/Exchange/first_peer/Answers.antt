@@ -9,12 +9,12 @@ use Rattle.exchange_core.proofs.exchange.Exchange.first_peer.Goals as goal
 pub returns : goal.returns
 returns g c =
     let plan : PlanView = c.self.inside.plan in
-    let at = c.from.result in
-    let found : Peer = get_or c.self.inside.peers.items at c.index.result.now in
+    let at = c.index.result in
+    let found : Peer = get_or c.self.inside.peers.items at c.index-2.result.now in
     let within : at < length c.self.inside.peers.items =
-    omega (arith, c.from.ensures, c.requires, c.self.invariant.0, ap (λ (p : PlanView). length p.peers) c.self.view_is) in
+    omega (arith, c.index.ensures, c.requires, c.self.invariant.0, ap (λ (p : PlanView). length p.peers) c.self.view_is) in
     ∥∥₁_map c.self.invariant.7 (λ are.
     subst (λ p. IsFirstPeer p c.args.peer c.first.result.now.value) c.self.view_is
-    (subst (IsFirstPeer plan c.args.peer) (sym (c.first.ensures ∙ c.index.ensures))
-    (subst (λ n. IsFirstPeer plan n found) (omega (arith, c.from.ensures))
-    (first_at plan 0 at c.self.inside.peers.items c.index.result.now are within))))
+    (subst (IsFirstPeer plan c.args.peer) (sym (c.first.ensures ∙ c.index-2.ensures))
+    (subst (λ n. IsFirstPeer plan n found) (omega (arith, c.index.ensures))
+    (first_at plan 0 at c.self.inside.peers.items c.index-2.result.now are within))))

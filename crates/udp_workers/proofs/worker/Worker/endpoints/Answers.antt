@@ -9,6 +9,6 @@ endpoint-requires c =
     let self = c.args.self.now in
     let plan = c.args.plan.now in
     let peers = c.peers-peer-items.result.now in
-    All-get_or (λ peer. peer < length plan.peers) peers c.loop-peer.peer-index 0 c.loop-peer-test.true
+    rw c.new.ensures (All-get_or (λ peer. peer < length plan.peers) peers c.loop-peer.peer-index 0 c.loop-peer-test.true
     (subst (All (λ peer. peer < length plan.peers)) (sym (c.peers-peer-items.ensures.peers ∙ c.requires))
-    (peers_below plan self.place))
+    (peers_below plan self.place)))
