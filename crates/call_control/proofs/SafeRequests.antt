@@ -2,7 +2,7 @@
 use Rattle.call_control.specs.declared.place.Place.TheVariants as places
 use Rattle.call_control.specs.declared.reply.Reply.TheVariants as replies
 use Rattle.call_signals.specs.declared.stage.Stage.TheVariants as stages
-use Rattle.call_control.specs.declared.reply.Heard.{Heard}
+use Rattle.call_control.specs.declared.reply.StepReply.{StepReply}
 use Rattle.call_control.proofs.Prelude.{◌≡◌, Some, None, true, false, refl, ℕ, ◌+◌, ◌≤◌, List, [], ◌∷◌, ◌++◌, ap, arith, inl, inr}
 use Rattle.call_control.proofs.Prelude.{◌⊎◌, Option, sym, subst, ◌∙◌, is_some, ◌≢◌, cases_Bool, true≢false, Ok, Err, Result}
 use Rattle.call_control.proofs.Prelude.{is_same, Book, has_name, reserve_answer, bridge_answer, partner_of, after_reserve}
@@ -219,7 +219,7 @@ module _ (around : Surroundings) where
 
   -- ---- steps of a peer: openings, datagrams and ticks
 
-  heard_hand : (heard : Heard) (rest : Rest) → in_hand (after_heard heard rest).place ≡ []
+  heard_hand : (heard : StepReply) (rest : Rest) → in_hand (after_heard heard rest).place ≡ []
   heard_hand heard rest = onward_hand heard.onwards.signals heard.touched rest.looks
 
   -- ---- openings
@@ -343,8 +343,8 @@ module _ (around : Surroundings) where
       (more_care around b (after_heard (heard None (all_media legs peer media)) rest) (λ x. omega arith)))
       brought_safe
     where
-      heard_so : (new : List Leg) (h : Heard) → ((x : LegName) → 1 ≤ past (after_heard h rest) x → 1 ≤ times x (names_of new))
-          → Sees around (after_heard h rest) new
+      heard_so : (new : List Leg) (h : StepReply)
+          → ((x : LegName) → 1 ≤ past (after_heard h rest) x → 1 ≤ times x (names_of new)) → Sees around (after_heard h rest) new
           → Safe around (places.Datagram peer) rest (scene book new []) (after_heard h rest)
       heard_so new h less covered = record {
         past = λ x some. inr (less x some);

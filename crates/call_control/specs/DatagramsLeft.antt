@@ -14,7 +14,7 @@ use Rattle.call_control.specs.declared.need.Need.{Need}
 use Rattle.call_control.specs.declared.need.Need.TheVariants as needs
 use Rattle.call_control.specs.declared.place.Place.{Place}
 use Rattle.call_control.specs.declared.place.Place.TheVariants as places
-use Rattle.call_control.specs.declared.reply.Heard.{Heard}
+use Rattle.call_control.specs.declared.reply.StepReply.{StepReply}
 use Rattle.call_control.specs.declared.reply.Reply.{Reply}
 use Rattle.call_control.specs.declared.reply.Reply.TheVariants as replies
 
@@ -77,7 +77,7 @@ datagrams_left work = place_puts work.place + rest_puts work.rest
 
 -- ---- the number that an answer brings
 
-abbrev pub heard_puts : Heard → ℕ
+abbrev pub heard_puts : StepReply → ℕ
 heard_puts heard = signals_put heard.onwards.signals + touched_puts heard.touched
 
 -- the same for a step of a peer

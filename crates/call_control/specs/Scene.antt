@@ -35,7 +35,7 @@ use Rattle.call_control.specs.declared.need.Route.{Route}
 use Rattle.call_control.specs.declared.need.Route.TheVariants as routes
 use Rattle.call_control.specs.declared.place.Place.{Place}
 use Rattle.call_control.specs.declared.place.Place.TheVariants as places
-use Rattle.call_control.specs.declared.reply.Heard.{Heard}
+use Rattle.call_control.specs.declared.reply.StepReply.{StepReply}
 use Rattle.call_control.specs.declared.reply.Reply.{Reply}
 use Rattle.call_control.specs.declared.reply.Reply.TheVariants as replies
 
@@ -111,10 +111,10 @@ pub record Answer : Type 0 where
 abbrev pub answer : Scene → Reply → Answer
 answer scene reply = record { scene = scene; reply = reply }
 
-abbrev pub heard_of : LegName → Option Signal → Heard
+abbrev pub heard_of : LegName → Option Signal → StepReply
 heard_of name signal = heard (Some name) (handed_up name signal)
 
-abbrev pub nothing_heard : Heard
+abbrev pub nothing_heard : StepReply
 nothing_heard = heard None []
 
 -- ---- datagrams and ticks

@@ -4,12 +4,12 @@ use Rattle.std.specs.Prelude.{List, Option, None, Some, Ok}
 use Rattle.call_book.specs.declared.leg_name.LegName.{LegName}
 use Rattle.call_signals.specs.declared.signal.Signal.{Signal}
 use Rattle.peer_lock.specs.declared.steps.Status.{Status}
-use Rattle.call_control.specs.declared.reply.Heard.{Heard}
+use Rattle.call_control.specs.declared.reply.StepReply.{StepReply}
 use Rattle.call_control.specs.declared.reply.Reply.{Reply}
 use Rattle.call_control.specs.declared.reply.Reply.TheVariants as replies
 
 -- the leg concerned, and the signals handed up
-abbrev pub heard : Option LegName → List (LegName × Signal) → Heard
+abbrev pub heard : Option LegName → List (LegName × Signal) → StepReply
 heard touched signals =
     record { touched = touched; rejected = None; onwards = record { signals = signals; offer = None; room = 0 } }
 

@@ -19,7 +19,7 @@ use Rattle.call_control.specs.declared.need.Need.TheVariants as needs
 use Rattle.call_control.specs.declared.need.Route.TheVariants as routes
 use Rattle.call_control.specs.declared.place.Place.{Place}
 use Rattle.call_control.specs.declared.place.Place.TheVariants as places
-use Rattle.call_control.specs.declared.reply.Heard.{Heard}
+use Rattle.call_control.specs.declared.reply.StepReply.{StepReply}
 use Rattle.call_control.specs.declared.reply.Reply.{Reply}
 use Rattle.call_control.specs.declared.reply.Reply.TheVariants as replies
 
@@ -137,7 +137,7 @@ go_on rest = go_on_from rest.onward rest.touched rest.looks
 -- ---- the place after each answer; an answer of the wrong kind counts as a refusal
 
 -- the signals of a peer's step, and the leg that it touched
-abbrev pub after_heard : Heard → Rest → Work
+abbrev pub after_heard : StepReply → Rest → Work
 after_heard heard rest = go_on (record rest { onward = heard.onwards.signals; touched = heard.touched })
 
 abbrev pub after_refused_datagram : PeerError → ℕ → Rest → Work

@@ -12,5 +12,5 @@ mod work;
 pub use act::Act;
 pub use need::{Need, Route};
 pub use place::Place;
-pub use reply::{Heard, Reply};
+pub use reply::{Reply, StepReply};
 pub use work::Work;

@@ -8,7 +8,7 @@ use peer_lock::{
 
 /// The answer to a step of a peer: the leg concerned, the rejection, and the signals handed up.
 #[derive(Drop)]
-pub struct Heard {
+pub struct StepReply {
     pub touched: Option<LegName>,
     pub rejected: Option<Rejection>,
     pub onwards: Onwards,
@@ -18,9 +18,9 @@ pub struct Heard {
 #[derive(Drop)]
 pub enum Reply {
     /// The answer to a datagram's step.
-    Datagram(Result<Heard, PeerError>),
+    Datagram(Result<StepReply, PeerError>),
     /// The answer to the opening by the received NEW.
-    OpenIn(Result<Heard, OpenError>),
+    OpenIn(Result<StepReply, OpenError>),
     /// Whether the received NEW was rejected.
     RejectNew(Result<(), RejectError>),
     /// Whether a leg was opened by a NEW of the exchange.

@@ -6,7 +6,7 @@ ghost use Rattle.call_control.specs.Work as work;
 use crate::act::Act;
 use crate::need::Need;
 use crate::place::Place;
-use crate::reply::Heard;
+use crate::reply::StepReply;
 use call_book::{LegName, PeerId};
 use leg_machine::{Cause, Signal};
 use peer_lock::{Offer, Onwards};
@@ -202,11 +202,11 @@ impl Work {
 
     // Takes the list of a step of a peer that was made.
     #[inline(always)]
-    pub(crate) fn hear(&mut self, heard: Heard)
+    pub(crate) fn hear(&mut self, heard: StepReply)
         ensures work { self.new.work ≡ work.after_heard heard self.old.work.rest }
         ensures onwards { self.new.onwards ≡ Some heard.onwards }
     {
-        let Heard {
+        let StepReply {
             touched,
             rejected: _,
             onwards,

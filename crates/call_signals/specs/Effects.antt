@@ -7,8 +7,8 @@ use Rattle.call_signals.specs.declared.effects.Answering.TheVariants.{Acknowledg
 use Rattle.call_signals.specs.declared.effects.Effect.{Effect}
 use Rattle.call_signals.specs.declared.effects.Mark.{Mark}
 use Rattle.call_signals.specs.declared.effects.Mark.TheVariants.{Nothing}
-use Rattle.call_signals.specs.declared.reply.Reply.{Reply}
-use Rattle.call_signals.specs.declared.reply.Reply.TheVariants.{Hangup, Reject}
+use Rattle.call_signals.specs.declared.reply.ReplyFrame.{ReplyFrame}
+use Rattle.call_signals.specs.declared.reply.ReplyFrame.TheVariants.{Hangup, Reject}
 use Rattle.call_signals.specs.declared.signal.Signal.{Signal}
 use Rattle.call_signals.specs.declared.signal.Signal.TheVariants as signals
 use Rattle.call_signals.specs.declared.stage.Stage.{Stage}
@@ -27,7 +27,7 @@ abbrev pub no_effect : Stage → Effect
 no_effect stage = row Acknowledged stage None
 
 -- a numbered frame is the answer; nothing else happens
-abbrev pub reply_alone : Stage → Reply → Effect
+abbrev pub reply_alone : Stage → ReplyFrame → Effect
 reply_alone stage reply = if is_over stage then no_effect stage else row (Answered reply) stage None
 
 -- the call is given up

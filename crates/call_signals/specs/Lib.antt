@@ -11,6 +11,6 @@ pub mod NewElements
 pub mod Openings
 pub mod Order
 pub mod PeerRules
-pub mod Reply
+pub mod ReplyFrame
 pub mod Signal
 pub mod Stage

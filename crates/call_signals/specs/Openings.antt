@@ -16,7 +16,7 @@ use Rattle.call_signals.specs.declared.format.Format.TheVariants.{Gsm, Ulaw, Ala
 use Rattle.call_signals.specs.declared.format.Formats.{Formats}
 use Rattle.call_signals.specs.declared.openings.Opening.{Opening}
 use Rattle.call_signals.specs.declared.openings.Opening.TheVariants.{Refused, Challenges, Offers}
-use Rattle.call_signals.specs.declared.reply.Reply.TheVariants.{AuthReq}
+use Rattle.call_signals.specs.declared.reply.ReplyFrame.TheVariants.{AuthReq}
 use Rattle.call_signals.specs.declared.rules.PeerRules.{PeerRules}
 use Rattle.call_signals.specs.declared.signal.Signal.TheVariants as signals
 use Rattle.call_signals.specs.declared.stage.Stage.TheVariants as stages

@@ -3,7 +3,7 @@ ghost use Rattle.std.specs.Prelude.{◌≡◌};
 ghost use Rattle.call_signals.specs.Effects as effects;
 
 use crate::cause::Cause;
-use crate::reply::Reply;
+use crate::reply::ReplyFrame;
 use crate::signal::Signal;
 use crate::stage::Stage;
 
@@ -13,7 +13,7 @@ pub enum Answering {
     /// By an ACK.
     Acknowledged,
     /// By a numbered frame.
-    Answered(Reply),
+    Answered(ReplyFrame),
     /// By nothing yet.
     Silent,
 }
@@ -82,7 +82,7 @@ pub fn no_effect(stage: Stage) -> Effect
 
 /// Returns a row in which a numbered frame is the answer, and nothing else happens. If the call is over, the frame is only
 /// acknowledged.
-pub fn reply_alone(stage: Stage, reply: Reply) -> Effect
+pub fn reply_alone(stage: Stage, reply: ReplyFrame) -> Effect
     ensures { result ≡ effects.reply_alone stage reply }
 {
     if stage.is_over() {
@@ -98,7 +98,7 @@ pub fn hung_up(cause: Cause) -> Effect
     ensures { result ≡ effects.hung_up cause }
 {
     row(
-        Answering::Answered(Reply::Hangup(cause)),
+        Answering::Answered(ReplyFrame::Hangup(cause)),
         Stage::Closing,
         Some(Signal::Hangup),
     )
@@ -110,7 +110,7 @@ pub fn rejected(cause: Cause) -> Effect
     ensures { result ≡ effects.rejected cause }
 {
     row(
-        Answering::Answered(Reply::Reject(cause)),
+        Answering::Answered(ReplyFrame::Reject(cause)),
         Stage::Closing,
         None,
     )

@@ -36,7 +36,7 @@ pub use new_elements::NewElements;
 pub use openings::Opening;
 pub use order::{Order, OrderError, OrderKind};
 pub use outcomes::{Heard, Judged, MediaIn, Outcome, StepError, TickOutcome};
-pub use reply::{Replies, Reply};
+pub use reply::{Replies, ReplyFrame};
 pub use rules::{Credential, PeerRules};
 pub use signal::{Digit, ElementText, Indication, MediaSpan, Onward, Signal};
 pub use stage::Stage;

@@ -7,7 +7,7 @@ use crate::cause::Cause;
 use crate::effects::{Answering, Effect, rejected, row};
 use crate::format::{Format, Formats};
 use crate::new_elements::NewElements;
-use crate::reply::Reply;
+use crate::reply::ReplyFrame;
 use crate::rules::PeerRules;
 use crate::signal::Signal;
 use crate::stage::Stage;
@@ -122,7 +122,7 @@ impl Opening {
         match self {
             Opening::Refused => rejected(Cause::CallRejected),
             Opening::Challenges => row(
-                Answering::Answered(Reply::AuthReq),
+                Answering::Answered(ReplyFrame::AuthReq),
                 Stage::Challenged,
                 None,
             ),

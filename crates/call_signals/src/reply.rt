@@ -3,7 +3,7 @@ ghost use Rattle.std.specs.Prelude.{◌≡◌, ◌+◌, ◌<◌, ◌≤◌, ◌^
 ghost use Rattle.iax_frames.specs.Datagram.{IsFrame};
 ghost use Rattle.iax_frames.specs.FullFrame.{spelling};
 ghost use Rattle.iax_frames.specs.MiniFrame.{mini_spelling};
-ghost use Rattle.call_signals.specs.Reply.{type_of, subclass_of, indication_subclass, timestamp_of};
+ghost use Rattle.call_signals.specs.ReplyFrame.{type_of, subclass_of, indication_subclass, timestamp_of};
 
 use crate::cause::Cause;
 use crate::codes::{
@@ -19,7 +19,7 @@ use std::marker::Model;
 
 /// A numbered frame that answers another, or that an order or a tick sends.
 #[derive(Clone, Copy)]
-pub enum Reply {
+pub enum ReplyFrame {
     AuthReq,
     /// With the digits of the MD5 answer.
     AuthRep([u8; 32]),
@@ -38,15 +38,15 @@ pub enum Reply {
     Dtmf(Digit),
 }
 
-impl Reply {
+impl ReplyFrame {
     /// Returns the type of the frame ("Frame Types").
     pub fn frame_type(&self) -> u8
         ensures { result ≡ type_of self.now }
     {
         match self {
-            Reply::Dtmf(_) => FRAME_DTMF,
-            Reply::Indicate(_) => FRAME_CONTROL,
-            Reply::Answer => FRAME_CONTROL,
+            ReplyFrame::Dtmf(_) => FRAME_DTMF,
+            ReplyFrame::Indicate(_) => FRAME_CONTROL,
+            ReplyFrame::Answer => FRAME_CONTROL,
             _ => FRAME_IAX,
         }
     }
@@ -56,18 +56,18 @@ impl Reply {
         ensures { result ≡ subclass_of self.now }
     {
         match self {
-            Reply::AuthReq => IAX_AUTHREQ,
-            Reply::AuthRep(_) => IAX_AUTHREP,
-            Reply::Accept(_) => IAX_ACCEPT,
-            Reply::Reject(_) => IAX_REJECT,
-            Reply::Hangup(_) => IAX_HANGUP,
-            Reply::Unsupport(_) => IAX_UNSUPPORT,
-            Reply::Ping => IAX_PING,
-            Reply::Pong(_) => IAX_PONG,
-            Reply::LagRp(_) => IAX_LAGRP,
-            Reply::Indicate(indication) => indication.subclass(),
-            Reply::Answer => CONTROL_ANSWER,
-            Reply::Dtmf(digit) => digit.get(),
+            ReplyFrame::AuthReq => IAX_AUTHREQ,
+            ReplyFrame::AuthRep(_) => IAX_AUTHREP,
+            ReplyFrame::Accept(_) => IAX_ACCEPT,
+            ReplyFrame::Reject(_) => IAX_REJECT,
+            ReplyFrame::Hangup(_) => IAX_HANGUP,
+            ReplyFrame::Unsupport(_) => IAX_UNSUPPORT,
+            ReplyFrame::Ping => IAX_PING,
+            ReplyFrame::Pong(_) => IAX_PONG,
+            ReplyFrame::LagRp(_) => IAX_LAGRP,
+            ReplyFrame::Indicate(indication) => indication.subclass(),
+            ReplyFrame::Answer => CONTROL_ANSWER,
+            ReplyFrame::Dtmf(digit) => digit.get(),
         }
     }
 
@@ -76,8 +76,8 @@ impl Reply {
         ensures { result ≡ timestamp_of self.now present }
     {
         match self {
-            Reply::Pong(timestamp) => *timestamp,
-            Reply::LagRp(timestamp) => *timestamp,
+            ReplyFrame::Pong(timestamp) => *timestamp,
+            ReplyFrame::LagRp(timestamp) => *timestamp,
             _ => present,
         }
     }

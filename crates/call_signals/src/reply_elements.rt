@@ -1,6 +1,6 @@
 //! Information elements in their order, for the frames that a leg sends ("Information Elements").
 ghost use Rattle.std.specs.Prelude.{◌≡◌, ◌+◌, ◌≤◌, ◌++◌, length};
-ghost use Rattle.call_signals.specs.Reply as replies;
+ghost use Rattle.call_signals.specs.ReplyFrame as replies;
 
 use crate::caller::Caller;
 use crate::cause::Cause;

@@ -21,4 +21,4 @@ pub use checking::check;
 pub use replaying::{ReplayError, ReplayFiles, replay, replay_buffered, replay_with, tell_outcome};
 pub use script_line::{ScriptLine, decimal, ends_script, line_of};
 pub use serving::serve;
-pub use viewer::{PeerOfPlan, Received, Stop, Viewer};
+pub use viewer::{PeerOfPlan, ReceivedDatagram, Stop, Viewer};

@@ -4,7 +4,7 @@ use crate::desk::Desk;
 use crate::free_order::{count_numbers, order_free};
 use crate::outboxes::empty_outbox;
 use crate::stages::Stages;
-use crate::viewer::{PeerOfPlan, Received, Stop, Viewer};
+use crate::viewer::{PeerOfPlan, ReceivedDatagram, Stop, Viewer};
 use crate::words::{Sender, key_of, octets_of, peer_of, places_of, sender_of};
 use call_auth::Challenge;
 use exchange_core::{Answer, Refusal, Retired};
@@ -242,7 +242,7 @@ impl Player {
         match peer {
             Some(peer) => {
                 let refusal = refused?;
-                viewer.received(Received {
+                viewer.received(ReceivedDatagram {
                     moment: self.now,
                     peer,
                     octets,

@@ -1,5 +1,5 @@
 //! The output of a replay.
-use crate::viewer::{PeerOfPlan, Received, Stop, Viewer};
+use crate::viewer::{PeerOfPlan, ReceivedDatagram, Stop, Viewer};
 use exchange_core::Retired;
 use exchange_report::{MediaAccounts, refusal_name, stage_name, write_accounts};
 use leg_machine::Stage;
@@ -51,7 +51,7 @@ fn write_retired<W: Write>(retired: &Retired, writer: &mut W) -> io::Result<()> 
 }
 
 impl<W: Write> Viewer for Printer<'_, W> {
-    fn received(&mut self, datagram: Received<'_>) -> Result<(), Stop> {
+    fn received(&mut self, datagram: ReceivedDatagram<'_>) -> Result<(), Stop> {
         match datagram.refusal {
             Some(refusal) => told(writeln!(self.writer, "refused {}", refusal_name(refusal))),
             None => Ok(()),

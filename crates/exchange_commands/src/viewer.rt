@@ -71,7 +71,7 @@ impl<'a> PeerOfPlan<'a> {
 
 /// A datagram that came from a peer at a moment, and its refusal, if it was refused.
 #[derive(Clone, Copy)]
-pub struct Received<'a> {
+pub struct ReceivedDatagram<'a> {
     /// In milliseconds.
     pub moment: u64,
     pub peer: PeerOfPlan<'a>,
@@ -96,7 +96,7 @@ pub trait Viewer {
     }
 
     /// Reports a datagram from a peer.
-    fn received(&mut self, _datagram: Received<'_>) -> Result<(), Stop> {
+    fn received(&mut self, _datagram: ReceivedDatagram<'_>) -> Result<(), Stop> {
         Ok(())
     }
 

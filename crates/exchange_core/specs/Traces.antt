@@ -11,7 +11,7 @@ use Rattle.call_control.specs.WorkState.{WorkState, begun, offer_in, onwards_aft
 use Rattle.call_control.specs.declared.act.Act.{Act}
 use Rattle.call_control.specs.declared.need.Need.{Need}
 use Rattle.call_control.specs.declared.need.Need.TheVariants as needs
-use Rattle.call_control.specs.declared.reply.Heard.{Heard}
+use Rattle.call_control.specs.declared.reply.StepReply.{StepReply}
 use Rattle.call_control.specs.declared.reply.Reply.{Reply}
 use Rattle.call_control.specs.declared.reply.Reply.TheVariants as replies
 use Rattle.iax_frames.specs.FullFrame.{SpellsFull}
@@ -57,7 +57,7 @@ moment plan now = record { plan = plan; octets = []; challenge = None; called = 
 -- ---- the part of an answer that a call gets
 
 -- of a datagram and of an opening by a NEW: the leg concerned, the rejection, and the signals handed up
-abbrev pub heard_of : {E : Type 0} → Result Step E → HandedUp → Result Heard E
+abbrev pub heard_of : {E : Type 0} → Result Step E → HandedUp → Result StepReply E
 heard_of (Ok step) onwards = Ok (record { touched = step.touched; rejected = step.rejected; onwards = onwards })
 heard_of (Err error) onwards = Err error
 

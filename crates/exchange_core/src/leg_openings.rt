@@ -22,7 +22,7 @@ use crate::gate::Gate;
 use crate::resources::{Given, TaskResources};
 use crate::routing::format_for;
 use call_book::{Lease, LegName, PeerId};
-use call_control::Heard;
+use call_control::StepReply;
 use iax_frames::Full;
 use leg_machine::{Caller, Format};
 use peer_lock::{LedgerSet, Offer, OpenError, ReadDatagram, RejectError, Step};
@@ -181,7 +181,7 @@ impl<G: Gate, J: LedgerSet> Exchange<G, J> {
         name: LegName,
         given: &Given<'_, '_, '_>,
         resources: &mut TaskResources,
-    ) -> Result<Heard, OpenError>
+    ) -> Result<StepReply, OpenError>
         requires lease { resources.old.lease ≡ Some name }
         requires peer { name.peer < length self.now.peers }
         requires opening { SpellsOpening given.now.datagram }
@@ -205,7 +205,7 @@ impl<G: Gate, J: LedgerSet> Exchange<G, J> {
             .locked(rt, name.owner())
             .open_in(pass, lease, frame, given.now, challenge, &mut onwards);
         match answer {
-            Ok(step) => Ok(Heard {
+            Ok(step) => Ok(StepReply {
                 touched: step.touched,
                 rejected: step.rejected,
                 onwards,

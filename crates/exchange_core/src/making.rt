@@ -27,7 +27,7 @@ use crate::exchange::Exchange;
 use crate::gate::Gate;
 use crate::resources::{Given, TaskResources};
 use call_book::{Lease, LegName, PeerId, ReserveError, Stale};
-use call_control::{Act, Heard, Need, Reply, Work};
+use call_control::{Act, Need, Reply, StepReply, Work};
 use peer_lock::laws::media_is_the_datagrams;
 use peer_lock::{LedgerSet, OpenError, OrderError, Status, StepsSpent};
 use std::sync::Wait;
@@ -80,7 +80,7 @@ impl<G: Gate, J: LedgerSet> Exchange<G, J> {
             .locked(rt, peer)
             .datagram_read(pass, &given.datagram, given.now, &mut onwards);
         match answer {
-            Ok(step) => Reply::Datagram(Ok(Heard {
+            Ok(step) => Reply::Datagram(Ok(StepReply {
                 touched: step.touched,
                 rejected: step.rejected,
                 onwards,

@@ -15,7 +15,7 @@ use Rattle.call_control.specs.declared.act.Act.{Act}
 use Rattle.call_control.specs.declared.need.Need.{Need}
 use Rattle.call_control.specs.declared.need.Need.TheVariants as needs
 use Rattle.call_control.specs.declared.need.Route.{Route}
-use Rattle.call_control.specs.declared.reply.Heard.{Heard}
+use Rattle.call_control.specs.declared.reply.StepReply.{StepReply}
 use Rattle.call_control.specs.declared.reply.Reply.{Reply}
 use Rattle.call_control.specs.declared.reply.Reply.TheVariants as replies
 use Rattle.iax_frames.specs.FullFrame.{FullFrame}
@@ -39,7 +39,7 @@ use Rattle.laws_of_calls.specs.Stored.{Stored}
 -- ---- the effect on one peer, and its answer
 
 -- the leg, the rejection and the signals of a step, in a list with this room
-abbrev pub heard_of : PeerStep → ℕ → Heard
+abbrev pub heard_of : PeerStep → ℕ → StepReply
 heard_of step room = record {
   touched = step.step.touched;
   rejected = step.step.rejected;

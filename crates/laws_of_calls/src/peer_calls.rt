@@ -14,7 +14,7 @@ ghost use Rattle.laws_of_calls.specs.StoredSteps.{TakesOrder, leases_after};
 
 use call_auth::Challenge;
 use call_book::{Lease, LegName};
-use call_control::{Act, Heard, Reply};
+use call_control::{Act, Reply, StepReply};
 use iax_frames::Full;
 use leg_machine::{Caller, Format, Order};
 use peer_lock::{LedgerSet, Onwards, Pass, PeerState};
@@ -32,7 +32,7 @@ pub fn hear<J: LedgerSet>(
     ensures { HearsDatagram peer.old peer.new result }
 {
     match peer.datagram(pass, octets, now, &mut onwards) {
-        Ok(step) => Reply::Datagram(Ok(Heard {
+        Ok(step) => Reply::Datagram(Ok(StepReply {
             touched: step.touched,
             rejected: step.rejected,
             onwards,
@@ -75,7 +75,7 @@ pub fn hear_new<J: LedgerSet>(
 {
     match peer.open_in(pass, lease, frame, now, challenge, &mut onwards) {
         Ok(step) => {
-            let heard = Heard {
+            let heard = StepReply {
                 touched: step.touched,
                 rejected: step.rejected,
                 onwards,

@@ -14,7 +14,7 @@ use Rattle.call_signals.specs.Stage.{is_ended}
 use Rattle.leg_machine.specs.Ticks.{Tick, quiet, sends_if, must_hang_up, hang_up_step, must_ping, pinged, last_step, due_frames}
 use Rattle.leg_machine.specs.Ticks.{tick_step}
 use Rattle.leg_machine.specs.Tries.{Tried, tries, one_try, after_try, NoneDue, IsFinished}
-use Rattle.call_signals.specs.declared.reply.Reply.TheVariants as replies
+use Rattle.call_signals.specs.declared.reply.ReplyFrame.TheVariants as replies
 use Rattle.call_signals.specs.declared.rules.PeerRules.{PeerRules}
 use Rattle.call_signals.specs.declared.stage.Stage.{Stage}
 use Rattle.call_signals.specs.declared.stage.Stage.TheVariants as stages

@@ -25,7 +25,7 @@ use Rattle.call_signals.specs.declared.effects.Effect.{Effect}
 use Rattle.call_signals.specs.declared.format.Format.{Format}
 use Rattle.call_signals.specs.declared.message.Message.{Message}
 use Rattle.call_signals.specs.declared.message.Message.TheVariants as messages
-use Rattle.call_signals.specs.declared.reply.Reply.{Reply}
+use Rattle.call_signals.specs.declared.reply.ReplyFrame.{ReplyFrame}
 use Rattle.call_signals.specs.declared.signal.Signal.TheVariants as signals
 use Rattle.call_signals.specs.declared.stage.Stage.{Stage}
 use Rattle.call_signals.specs.declared.stage.Stage.TheVariants as stages
@@ -36,7 +36,7 @@ use Rattle.leg_machine.proofs.Tied.{either, either_by, of-full-step, of-vnak-ste
 unless-row : (frame : FullFrame) (stage : Stage) → IsMediaOf frame (unless_over stage signals.Hangup)
 unless-row frame stage = either (IsMediaOf frame) (is_over stage) None (Some signals.Hangup) tt tt
 
-reply-row : (frame : FullFrame) (stage : Stage) (reply : Reply) → IsMediaOf frame (reply_alone stage reply).signal
+reply-row : (frame : FullFrame) (stage : Stage) (reply : ReplyFrame) → IsMediaOf frame (reply_alone stage reply).signal
 reply-row frame stage reply =
     either (λ (e : Effect). IsMediaOf frame e.signal) (is_over stage) (no_effect stage) (row (Answered reply) stage None) tt tt
 

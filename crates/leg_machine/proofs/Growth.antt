@@ -13,7 +13,7 @@ use Rattle.call_signals.specs.Stage.{is_ended, is_talking}
 use Rattle.leg_machine.specs.Ticks.{Tick, quiet, sends_if, must_hang_up, must_ping, pinged, is_ping_time, last_step, due_frames}
 use Rattle.leg_machine.specs.Ticks.{tick_step}
 use Rattle.leg_machine.specs.Tries.{Tried, tries, one_try, after_try}
-use Rattle.call_signals.specs.declared.reply.Reply.TheVariants as replies
+use Rattle.call_signals.specs.declared.reply.ReplyFrame.TheVariants as replies
 use Rattle.call_signals.specs.declared.stage.Stage.TheVariants as stages
 use Rattle.leg_machine.specs.Tie.{SendsAtMostOne, SendsNumbered, IsSending}
 use Rattle.leg_machine.proofs.SeenTicks.{tick-seen}

@@ -31,7 +31,7 @@ use Rattle.call_signals.specs.declared.format.Format.{Format}
 use Rattle.call_signals.specs.declared.message.Message.{Message}
 use Rattle.call_signals.specs.declared.message.Message.TheVariants as messages
 use Rattle.call_signals.specs.declared.outcomes.Heard.{Heard}
-use Rattle.call_signals.specs.declared.reply.Reply.{Reply}
+use Rattle.call_signals.specs.declared.reply.ReplyFrame.{ReplyFrame}
 use Rattle.call_signals.specs.declared.signal.MediaSpan.{MediaSpan}
 use Rattle.call_signals.specs.declared.signal.Signal.{Signal}
 use Rattle.call_signals.specs.declared.signal.Signal.TheVariants as signals
@@ -58,7 +58,7 @@ hung-up-row stages.Ended = (HangsUp, refl, refl)
 plain-row : (stage : Stage) (effect : Effect) → effect.stage ≡ stage → effect.signal ≡ None → SeenRow stage effect
 plain-row stage effect e f = (Plain, e, f)
 
-reply-row : (stage : Stage) (reply : Reply) → SeenRow stage (reply_alone stage reply)
+reply-row : (stage : Stage) (reply : ReplyFrame) → SeenRow stage (reply_alone stage reply)
 reply-row stage reply =
     either (SeenRow stage) (is_over stage) (no_effect stage) (row (Answered reply) stage None) (Plain, refl, refl) (
       Plain,

@@ -21,7 +21,7 @@ use Rattle.call_signals.specs.declared.message.Message.TheVariants.{New}
 use Rattle.call_signals.specs.declared.openings.Opening.{Opening}
 use Rattle.call_signals.specs.declared.openings.Opening.TheVariants as openings
 use Rattle.call_signals.specs.declared.outcomes.Heard.{Heard}
-use Rattle.call_signals.specs.declared.reply.Reply.TheVariants as replies
+use Rattle.call_signals.specs.declared.reply.ReplyFrame.TheVariants as replies
 use Rattle.call_signals.specs.declared.rules.PeerRules.{PeerRules}
 use Rattle.call_signals.specs.declared.stage.Stage.TheVariants as stages
 use Rattle.leg_machine.proofs.SeenFrames.{or-none, seen-taken}

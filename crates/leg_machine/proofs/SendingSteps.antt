@@ -40,7 +40,7 @@ use Rattle.leg_machine.specs.declared.media.MediaSent.TheVariants as media
 use Rattle.call_signals.specs.declared.message.Message.{Message}
 use Rattle.call_signals.specs.declared.message.Message.TheVariants.{New}
 use Rattle.leg_machine.specs.declared.orders.Ordered.{Ordered}
-use Rattle.call_signals.specs.declared.reply.Reply.TheVariants as replies
+use Rattle.call_signals.specs.declared.reply.ReplyFrame.TheVariants as replies
 use Rattle.call_signals.specs.declared.rules.PeerRules.{PeerRules}
 use Rattle.call_signals.specs.declared.stage.Stage.TheVariants as stages
 use Rattle.leg_machine.proofs.Sendings.{reply-numbered, voice-numbered, new-sending, ack-sending, vnak-sending, held-all, all-at}

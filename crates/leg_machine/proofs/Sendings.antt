@@ -23,8 +23,8 @@ use Rattle.call_signals.specs.declared.format.Format.{Format}
 use Rattle.call_signals.specs.declared.format.Format.TheVariants as formats
 use Rattle.call_signals.specs.declared.message.Message.{Message}
 use Rattle.call_signals.specs.declared.message.Message.TheVariants as messages
-use Rattle.call_signals.specs.declared.reply.Reply.{Reply}
-use Rattle.call_signals.specs.declared.reply.Reply.TheVariants as replies
+use Rattle.call_signals.specs.declared.reply.ReplyFrame.{ReplyFrame}
+use Rattle.call_signals.specs.declared.reply.ReplyFrame.TheVariants as replies
 use Rattle.call_signals.specs.declared.signal.Indication.TheVariants as indications
 use Rattle.leg_machine.proofs.Tied.{either}
 
@@ -67,7 +67,7 @@ dtmf-numbered (Some digit) = either (λ (m : Message). is_numbered m ≡ true) (
     messages.Other refl refl
 dtmf-numbered None = refl
 
-pub reply-numbered : (leg : LegState) (now : ℕ) (reply : Reply) → IsNumberedFrame (reply_frame leg now reply)
+pub reply-numbered : (leg : LegState) (now : ℕ) (reply : ReplyFrame) → IsNumberedFrame (reply_frame leg now reply)
 reply-numbered leg now (replies.Dtmf digit) = dtmf-numbered (subclass_meaning digit)
 reply-numbered leg now (replies.Indicate indications.Ringing) = refl
 reply-numbered leg now (replies.Indicate indications.Progress) = refl

@@ -24,8 +24,8 @@ use Rattle.leg_machine.specs.declared.media.MediaSent.TheVariants as media
 use Rattle.call_signals.specs.declared.order.Order.{Order}
 use Rattle.call_signals.specs.declared.order.Order.TheVariants.{Accept, Reject, Indicate, Answer, Dtmf, Media, Hangup, Doom, Paid}
 use Rattle.leg_machine.specs.declared.orders.Ordered.{Ordered}
-use Rattle.call_signals.specs.declared.reply.Reply.{Reply}
-use Rattle.call_signals.specs.declared.reply.Reply.TheVariants as replies
+use Rattle.call_signals.specs.declared.reply.ReplyFrame.{ReplyFrame}
+use Rattle.call_signals.specs.declared.reply.ReplyFrame.TheVariants as replies
 use Rattle.call_signals.specs.declared.stage.Stage.{Stage}
 use Rattle.call_signals.specs.declared.stage.Stage.TheVariants as stages
 use Rattle.leg_machine.proofs.Tied.{either}
@@ -76,7 +76,7 @@ kept-tries (suc turns) leg now =
     kept-try (resent leg.window now leg.rules.retry_ms leg.rules.max_retries) leg now (λ l. tries turns l now)
     (λ l. kept-tries turns l now)
 
-sends-if : (grown : Bool) (leg changed : LegState) (now : ℕ) (reply : Reply) → changed.window ≡ leg.window
+sends-if : (grown : Bool) (leg changed : LegState) (now : ℕ) (reply : ReplyFrame) → changed.window ≡ leg.window
     → SendsAtMostOne leg (sends_if grown leg changed now reply).leg
 sends-if true leg changed now reply e =
     (Some (reply_frame changed now reply), ap (λ (w : WindowState). w.history ++ Sent (reply_frame changed now reply) ∷ []) e)

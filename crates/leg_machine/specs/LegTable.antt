@@ -18,7 +18,7 @@ use Rattle.call_signals.specs.declared.effects.Mark.TheVariants.{Quelches, Unque
 use Rattle.call_signals.specs.declared.format.Format.{Format}
 use Rattle.call_signals.specs.declared.message.Message.{Message}
 use Rattle.call_signals.specs.declared.message.Message.TheVariants as messages
-use Rattle.call_signals.specs.declared.reply.Reply.TheVariants as replies
+use Rattle.call_signals.specs.declared.reply.ReplyFrame.TheVariants as replies
 use Rattle.call_signals.specs.declared.rules.PeerRules.{PeerRules}
 use Rattle.call_signals.specs.declared.signal.Signal.TheVariants as signals
 use Rattle.call_signals.specs.declared.stage.Stage.{Stage}

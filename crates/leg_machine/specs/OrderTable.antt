@@ -18,13 +18,13 @@ use Rattle.call_signals.specs.declared.order.Order.TheVariants.{Paid}
 use Rattle.call_signals.specs.declared.order.OrderError.{OrderError}
 use Rattle.call_signals.specs.declared.order.OrderError.TheVariants as errors
 use Rattle.leg_machine.specs.declared.orders.Ordered.{Ordered}
-use Rattle.call_signals.specs.declared.reply.Reply.{Reply}
-use Rattle.call_signals.specs.declared.reply.Reply.TheVariants as replies
+use Rattle.call_signals.specs.declared.reply.ReplyFrame.{ReplyFrame}
+use Rattle.call_signals.specs.declared.reply.ReplyFrame.TheVariants as replies
 use Rattle.call_signals.specs.declared.stage.Stage.{Stage}
 use Rattle.call_signals.specs.declared.stage.Stage.TheVariants as stages
 
 -- this frame is sent while fewer than this number are held, and the leg enters this stage
-abbrev pub ordered : Reply → Stage → ℕ → Ordered
+abbrev pub ordered : ReplyFrame → Stage → ℕ → Ordered
 ordered reply stage most = record { reply = reply; stage = stage; most = most }
 
 abbrev pub when : Bool → Ordered → Option Ordered

@@ -1,6 +1,7 @@
 -- The frames that a leg writes ("Full Frames", "IAX Frames", "Control Frames", "Information Elements").
-pub use Rattle.call_signals.specs.Reply.{element_of, element_if, cause_elements, format_bits, new_elements, auth_req_elements}
-pub use Rattle.call_signals.specs.Reply.{type_of, indication_subclass, subclass_of, timestamp_of}
+pub use Rattle.call_signals.specs.ReplyFrame.{element_of, element_if, cause_elements, format_bits, new_elements}
+pub use Rattle.call_signals.specs.ReplyFrame.{auth_req_elements}
+pub use Rattle.call_signals.specs.ReplyFrame.{type_of, indication_subclass, subclass_of, timestamp_of}
 use Rattle.std.specs.Prelude.{ℕ, Bool, true, false, ◌-◌, ◌%◌, ◌^◌, List, [], ◌∷◌, unwrap_or}
 use Rattle.iax_frames.specs.FullFrame.{FullFrame}
 use Rattle.iax_frames.specs.declared.stored_frame.Frame.{Frame}
@@ -10,12 +11,12 @@ use Rattle.seq_window.specs.History.{sent_count, taken_count}
 use Rattle.call_signals.specs.Codes.{FRAME_VOICE, FRAME_IAX, IAX_NEW, IAX_ACK, IAX_VNAK}
 use Rattle.call_signals.specs.Format.{format_bit}
 use Rattle.leg_machine.specs.Leg.{LegState}
-use Rattle.call_signals.specs.declared.reply.Reply.{Reply}
-use Rattle.call_signals.specs.declared.reply.Reply.TheVariants.{AuthReq, AuthRep, Accept, Reject, Hangup, Ping, Pong, LagRp}
-use Rattle.call_signals.specs.declared.reply.Reply.TheVariants.{Unsupport, Indicate, Answer, Dtmf}
+use Rattle.call_signals.specs.declared.reply.ReplyFrame.{ReplyFrame}
+use Rattle.call_signals.specs.declared.reply.ReplyFrame.TheVariants.{AuthReq, AuthRep, Accept, Reject, Hangup, Ping, Pong, LagRp}
+use Rattle.call_signals.specs.declared.reply.ReplyFrame.TheVariants.{Unsupport, Indicate, Answer, Dtmf}
 
 -- the data of a reply
-abbrev pub data_of : LegState → Reply → List ℕ
+abbrev pub data_of : LegState → ReplyFrame → List ℕ
 data_of leg AuthReq = auth_req_elements leg.rules.user (unwrap_or leg.challenge [])
 data_of leg (AuthRep digits) = element_of MD5_RESULT digits
 data_of leg (Accept format) = element_of FORMAT (format_bits format)
@@ -33,7 +34,7 @@ data_of leg (Dtmf digit) = []
 abbrev pub present_of : LegState → ℕ → ℕ
 present_of leg now = (now - leg.opened) % 2 ^ 32
 
-abbrev pub reply_frame : LegState → ℕ → Reply → Frame
+abbrev pub reply_frame : LegState → ℕ → ReplyFrame → Frame
 reply_frame leg now reply = record {
   ts = timestamp_of reply (present_of leg now);
   kind = type_of reply;

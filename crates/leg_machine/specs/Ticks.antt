@@ -9,8 +9,8 @@ use Rattle.call_signals.specs.Stage.{is_over, is_talking, is_ended}
 use Rattle.leg_machine.specs.Tries.{tries}
 use Rattle.leg_machine.specs.Working.{sent}
 use Rattle.call_signals.specs.declared.failure.Failure.TheVariants as failures
-use Rattle.call_signals.specs.declared.reply.Reply.{Reply}
-use Rattle.call_signals.specs.declared.reply.Reply.TheVariants.{Hangup, Ping}
+use Rattle.call_signals.specs.declared.reply.ReplyFrame.{ReplyFrame}
+use Rattle.call_signals.specs.declared.reply.ReplyFrame.TheVariants.{Hangup, Ping}
 use Rattle.call_signals.specs.declared.stage.Stage.TheVariants as stages
 
 -- the result of a tick; skipped: the number of frames that were due and had no memory
@@ -23,7 +23,7 @@ abbrev pub quiet : LegState → Tick
 quiet leg = record { leg = leg; replies = []; skipped = 0 }
 
 -- the leg, changed, sends a frame if there was memory; otherwise nothing changes
-abbrev pub sends_if : Bool → LegState → LegState → ℕ → Reply → Tick
+abbrev pub sends_if : Bool → LegState → LegState → ℕ → ReplyFrame → Tick
 sends_if grown leg changed now reply =
     if grown
     then record {

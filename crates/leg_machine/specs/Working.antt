@@ -16,8 +16,8 @@ use Rattle.call_signals.specs.declared.format.Format.{Format}
 use Rattle.call_signals.specs.declared.format.Format.TheVariants.{Gsm, Ulaw, Alaw}
 use Rattle.call_signals.specs.declared.format.Formats.{Formats}
 use Rattle.call_signals.specs.declared.message.Message.{Message}
-use Rattle.call_signals.specs.declared.reply.Reply.{Reply}
-use Rattle.call_signals.specs.declared.reply.Reply.TheVariants.{Accept}
+use Rattle.call_signals.specs.declared.reply.ReplyFrame.{ReplyFrame}
+use Rattle.call_signals.specs.declared.reply.ReplyFrame.TheVariants.{Accept}
 use Rattle.call_signals.specs.declared.stage.Stage.{Stage}
 use Rattle.call_signals.specs.declared.stage.Stage.TheVariants.{Ended}
 
@@ -52,11 +52,11 @@ end_noted leg stage frame message = record leg {
 }
 
 -- an ACCEPT agrees on its format
-abbrev pub agreed_format : Reply → Format → Format
+abbrev pub agreed_format : ReplyFrame → Format → Format
 agreed_format (Accept format) before = format
 agreed_format reply before = before
 
-abbrev pub agreed : LegState → Reply → LegState
+abbrev pub agreed : LegState → ReplyFrame → LegState
 agreed leg reply = record leg { format = agreed_format reply leg.format }
 
 abbrev pub no_formats : Formats

@@ -8,7 +8,7 @@ use call_signals::effects::{
     goes_on, hung_up, marking, no_effect, rejected, reply_alone, row, unless_over,
 };
 use call_signals::{
-    Answering, Cause, Effect, Format, Mark, MediaSpan, Message, Reply, Signal, Stage,
+    Answering, Cause, Effect, Format, Mark, MediaSpan, Message, ReplyFrame, Signal, Stage,
 };
 use iax_frames::Full;
 use info_elements::{AUTHMETHODS, CHALLENGE, FORMAT, MD5_RESULT, last_in, u16_in, u32_in};
@@ -50,9 +50,9 @@ fn any_stage(stage: Stage, frame: &Full, message: &Message) -> Effect
             Stage::Ended,
             unless_over(stage, Signal::Hangup),
         ),
-        Message::Ping => reply_alone(stage, Reply::Pong(frame.timestamp())),
-        Message::LagRq => reply_alone(stage, Reply::LagRp(frame.timestamp())),
-        Message::UnknownIax => reply_alone(stage, Reply::Unsupport(frame.subclass())),
+        Message::Ping => reply_alone(stage, ReplyFrame::Pong(frame.timestamp())),
+        Message::LagRq => reply_alone(stage, ReplyFrame::LagRp(frame.timestamp())),
+        Message::UnknownIax => reply_alone(stage, ReplyFrame::Unsupport(frame.subclass())),
         _ => no_effect(stage),
     }
 }
@@ -62,7 +62,7 @@ fn auth_rep_row(digits: Option<[u8; 32]>) -> Effect
 {
     match digits {
         Some(digits) => marking(
-            Answering::Answered(Reply::AuthRep(digits)),
+            Answering::Answered(ReplyFrame::AuthRep(digits)),
             Stage::Waiting,
             Mark::Authenticates,
         ),

@@ -13,7 +13,7 @@ ghost use Rattle.memory_requests.specs.Refused.{WasRefused};
 use call_auth::Challenge;
 use call_signals::codes::{FRAME_IAX, IAX_ACK, IAX_VNAK};
 use call_signals::{
-    Cause, Failure, Format, Formats, LocalNumber, Message, Moments, PeerRules, Replies, Reply,
+    Cause, Failure, Format, Formats, LocalNumber, Message, Moments, PeerRules, Replies, ReplyFrame,
     Stage, ending_cause,
 };
 use iax_frames::{CallNumber, Full, FullHead, Payload};
@@ -199,11 +199,11 @@ impl Machine {
     }
 
     /// Takes over the format of an ACCEPT; another reply changes nothing.
-    pub fn agree(&mut self, reply: &Reply)
+    pub fn agree(&mut self, reply: &ReplyFrame)
         ensures leg { leg_of self.new ≡ steps.agreed (leg_of self.old) reply.now }
         ensures window { self.new.window ≡ self.old.window }
     {
-        if let Reply::Accept(format) = reply {
+        if let ReplyFrame::Accept(format) = reply {
             self.format = *format;
         }
     }
@@ -354,7 +354,7 @@ impl Machine {
     }
 
     /// Sends a reply at the moment `now`, in milliseconds, as a numbered frame (`send_frame`).
-    pub fn send(&mut self, reply: Reply, now: u64, outs: &mut Replies)
+    pub fn send(&mut self, reply: ReplyFrame, now: u64, outs: &mut Replies)
         requires room { HasRoom 1 self.old }
         requires more { length outs.old < 128 }
         requires window { held_count self.old.window.state < self.old.window.state.width }

@@ -6,18 +6,18 @@ ghost use Rattle.memory_requests.specs.Refused.{WasRefused};
 
 use crate::machine::Machine;
 use crate::media::MediaSent;
-use call_signals::{Cause, Order, OrderError, Replies, Reply, Stage};
+use call_signals::{Cause, Order, OrderError, Replies, ReplyFrame, Stage};
 
 /// A row that sends a numbered frame.
 #[derive(Clone, Copy)]
 pub struct Ordered {
-    pub reply: Reply,
+    pub reply: ReplyFrame,
     pub stage: Stage,
     /// It is sent while fewer frames than this are held.
     pub most: usize,
 }
 
-fn when(holds: bool, reply: Reply, stage: Stage, most: usize) -> Option<Ordered>
+fn when(holds: bool, reply: ReplyFrame, stage: Stage, most: usize) -> Option<Ordered>
     ensures row { result ≡ orders.when holds (orders.ordered reply stage most) }
     ensures most { IfSome result (λ row. row.most ≡ most) }
 {
@@ -51,32 +51,32 @@ impl Machine {
         match order {
             Order::Accept(format) => when(
                 stage.is_offered(),
-                Reply::Accept(*format),
+                ReplyFrame::Accept(*format),
                 Stage::Linked,
                 width,
             ),
             Order::Reject(cause) => when(
                 stage.is_offered(),
-                Reply::Reject(*cause),
+                ReplyFrame::Reject(*cause),
                 Stage::Closing,
                 width,
             ),
             Order::Indicate(indication) => when(
                 stage.is_linked(),
-                Reply::Indicate(*indication),
+                ReplyFrame::Indicate(*indication),
                 Stage::Linked,
                 room,
             ),
-            Order::Answer => when(stage.is_linked(), Reply::Answer, Stage::Up, room),
+            Order::Answer => when(stage.is_linked(), ReplyFrame::Answer, Stage::Up, room),
             Order::Dtmf(digit) => when(
                 stage.is_talking() && !self.refuses_digits(),
-                Reply::Dtmf(*digit),
+                ReplyFrame::Dtmf(*digit),
                 stage,
                 room,
             ),
             Order::Hangup(cause) => when(
                 !stage.is_over(),
-                Reply::Hangup(*cause),
+                ReplyFrame::Hangup(*cause),
                 Stage::Closing,
                 width,
             ),

@@ -6,7 +6,7 @@ ghost use Rattle.leg_machine.specs.Replies as replies;
 use crate::machine::Machine;
 use call_signals::codes::{FRAME_IAX, FRAME_VOICE, IAX_NEW};
 use call_signals::reply_elements::{append_auth_req, append_cause, append_new};
-use call_signals::{Caller, Reply};
+use call_signals::{Caller, ReplyFrame};
 use iax_frames::Payload;
 use info_elements::{FORMAT, IAX_UNKNOWN, MD5_RESULT, append_to};
 use seq_window::FrameView;
@@ -27,28 +27,32 @@ impl Machine {
     }
 
     /// Writes the elements of a reply to the empty list.
-    pub fn write_elements(&self, reply: &Reply, elements: &mut Payload)
+    pub fn write_elements(&self, reply: &ReplyFrame, elements: &mut Payload)
         requires { elements.old ≡ [] }
         ensures { elements.new ≡ replies.data_of (leg_of self.now) reply.now }
     {
         match reply {
-            Reply::AuthReq => append_auth_req(elements, &self.rules.user, self.challenge_text()),
-            Reply::AuthRep(digits) => append_to(elements, MD5_RESULT, digits),
-            Reply::Accept(format) => append_to(elements, FORMAT, &format.bit().to_be_bytes()),
-            Reply::Reject(cause) => append_cause(elements, *cause),
-            Reply::Hangup(cause) => append_cause(elements, *cause),
-            Reply::Unsupport(octet) => append_to(elements, IAX_UNKNOWN, &[*octet]),
-            Reply::Ping => {}
-            Reply::Pong(_) => {}
-            Reply::LagRp(_) => {}
-            Reply::Indicate(_) => {}
-            Reply::Answer => {}
-            Reply::Dtmf(_) => {}
+            ReplyFrame::AuthReq => append_auth_req(
+                elements,
+                &self.rules.user,
+                self.challenge_text(),
+            ),
+            ReplyFrame::AuthRep(digits) => append_to(elements, MD5_RESULT, digits),
+            ReplyFrame::Accept(format) => append_to(elements, FORMAT, &format.bit().to_be_bytes()),
+            ReplyFrame::Reject(cause) => append_cause(elements, *cause),
+            ReplyFrame::Hangup(cause) => append_cause(elements, *cause),
+            ReplyFrame::Unsupport(octet) => append_to(elements, IAX_UNKNOWN, &[*octet]),
+            ReplyFrame::Ping => {}
+            ReplyFrame::Pong(_) => {}
+            ReplyFrame::LagRp(_) => {}
+            ReplyFrame::Indicate(_) => {}
+            ReplyFrame::Answer => {}
+            ReplyFrame::Dtmf(_) => {}
         }
     }
 
     /// Returns a reply as a frame of the moment `now`, in milliseconds, with its elements.
-    pub fn reply_frame<'a>(&self, reply: &Reply, now: u64, elements: &'a [u8]) -> FrameView<'a>
+    pub fn reply_frame<'a>(&self, reply: &ReplyFrame, now: u64, elements: &'a [u8]) -> FrameView<'a>
         requires { elements.now ≡ replies.data_of (leg_of self.now) reply.now }
         ensures { frame_of result ≡ replies.reply_frame (leg_of self.now) now reply.now }
     {

@@ -6,7 +6,7 @@ ghost use Rattle.leg_machine.specs.Leg.{is_record_full};
 ghost use Rattle.leg_machine.specs.Ticks as ticks;
 
 use crate::machine::Machine;
-use call_signals::{Failure, Replies, Reply, Stage};
+use call_signals::{Failure, Replies, ReplyFrame, Stage};
 
 impl Machine {
     ghost use Rattle.leg_machine.specs.Leg.{leg_of, whole_leg, capacity_of, HasRoom};
@@ -75,7 +75,7 @@ impl Machine {
             return 1;
         }
         self.enter(Stage::Closing, now);
-        self.send(Reply::Hangup(self.cause), now, outs);
+        self.send(ReplyFrame::Hangup(self.cause), now, outs);
         0
     }
 
@@ -96,7 +96,7 @@ impl Machine {
             return 1;
         }
         self.pinged = now;
-        self.send(Reply::Ping, now, outs);
+        self.send(ReplyFrame::Ping, now, outs);
         0
     }
 

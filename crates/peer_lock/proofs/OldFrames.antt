@@ -6,13 +6,13 @@ use Rattle.std.proofs.Common.{ℕ, ◌≡◌, zero, suc, Bool, true, false, cond
 use Rattle.std.proofs.Common.{refl, arith}
 use Rattle.call_signals.specs.Codes.{FRAME_VOICE}
 use Rattle.call_signals.specs.Message.{message_of, is_inval, is_numbered, is_vnak}
-use Rattle.call_signals.specs.Reply.{type_of}
+use Rattle.call_signals.specs.ReplyFrame.{type_of}
 use Rattle.call_signals.specs.declared.effects.Answering.{Answering}
 use Rattle.call_signals.specs.declared.effects.Answering.TheVariants as answerings
 use Rattle.call_signals.specs.declared.effects.Effect.{Effect}
 use Rattle.call_signals.specs.declared.message.Message.{Message}
-use Rattle.call_signals.specs.declared.reply.Reply.{Reply}
-use Rattle.call_signals.specs.declared.reply.Reply.TheVariants as replies
+use Rattle.call_signals.specs.declared.reply.ReplyFrame.{ReplyFrame}
+use Rattle.call_signals.specs.declared.reply.ReplyFrame.TheVariants as replies
 use Rattle.iax_frames.specs.FullFrame.{FullFrame}
 use Rattle.iax_frames.specs.declared.stored_frame.Frame.{Frame}
 use Rattle.leg_machine.specs.Effects.{is_reply}
@@ -47,13 +47,14 @@ old_both (frame ∷ one) other first second = (first.0, old_both one other first
 
 -- ---- frames
 
-no_voice : (reply : Reply) → type_of reply ≡ FRAME_VOICE → ⊥
+no_voice : (reply : ReplyFrame) → type_of reply ≡ FRAME_VOICE → ⊥
 no_voice (replies.Dtmf digit) is = omega (arith, is)
 no_voice (replies.Indicate indication) is = omega (arith, is)
 no_voice replies.Answer is = omega (arith, is)
 no_voice reply is = omega (arith, is)
 
-pub reply_old : (leg : LegState) (byte now : ℕ) (reply : Reply) → IsOld (outgoing leg false byte (reply_frame leg now reply))
+pub reply_old : (leg : LegState) (byte now : ℕ) (reply : ReplyFrame)
+    → IsOld (outgoing leg false byte (reply_frame leg now reply))
 reply_old leg byte now reply = λ is. absurd (no_voice reply is)
 
 again_old : (leg : LegState) (held : List (Held Frame)) → AreOld (map (sent_again leg) held)
@@ -129,7 +130,7 @@ full_old leg frame now = message_old (message_of frame.head) leg frame now
 
 -- ---- a tick
 
-sends_old : (grown : Bool) (leg changed : LegState) (now : ℕ) (reply : Reply)
+sends_old : (grown : Bool) (leg changed : LegState) (now : ℕ) (reply : ReplyFrame)
     → AreOld (sends_if grown leg changed now reply).replies
 sends_old true leg changed now reply = (reply_old changed (next_byte changed) now reply, tt)
 sends_old false leg changed now reply = tt

@@ -11,8 +11,8 @@ use Rattle.leg_machine.specs.Ticks.{Tick, quiet, sends_if, must_hang_up, hang_up
 use Rattle.leg_machine.specs.Ticks.{due_frames, tick_step, is_idle}
 use Rattle.leg_machine.specs.Tries.{tries}
 use Rattle.call_signals.specs.declared.failure.Failure.TheVariants as failures
-use Rattle.call_signals.specs.declared.reply.Reply.{Reply}
-use Rattle.call_signals.specs.declared.reply.Reply.TheVariants as replies
+use Rattle.call_signals.specs.declared.reply.ReplyFrame.{ReplyFrame}
+use Rattle.call_signals.specs.declared.reply.ReplyFrame.TheVariants as replies
 use Rattle.call_signals.specs.declared.stage.Stage.TheVariants as stages
 use Rattle.peer_legs.specs.Legs.{NamedLeg}
 use Rattle.outbox.specs.Outbox.{put}
@@ -34,7 +34,8 @@ place_same (first ∷ places) (suc index) place there = ap (λ ps. first ∷ ps)
 
 -- ---- the count of frames without memory
 
-few_sends : (grown : Bool) (leg changed : LegState) (now : ℕ) (reply : Reply) → (sends_if grown leg changed now reply).skipped ≤ 1
+few_sends : (grown : Bool) (leg changed : LegState) (now : ℕ) (reply : ReplyFrame)
+    → (sends_if grown leg changed now reply).skipped ≤ 1
 few_sends true leg changed now reply = omega arith
 few_sends false leg changed now reply = omega arith
 

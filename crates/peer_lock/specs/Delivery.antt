@@ -11,7 +11,7 @@ use Rattle.leg_machine.specs.Message.{message_of, is_numbered}
 use Rattle.call_signals.specs.Codes.{FRAME_IAX, IAX_CALLTOKEN, IAX_INVAL, IAX_PONG, IAX_REJECT, IAX_REGREQ, IAX_REGREJ}
 use Rattle.call_signals.specs.Codes.{IAX_REGREL}
 use Rattle.call_signals.specs.FrameElements.{element_in}
-use Rattle.call_signals.specs.Reply.{cause_elements, element_of}
+use Rattle.call_signals.specs.ReplyFrame.{cause_elements, element_of}
 use Rattle.call_signals.specs.declared.cause.Cause.TheVariants.{Congestion, Other}
 use Rattle.call_signals.specs.declared.message.Message.{Message}
 use Rattle.call_signals.specs.declared.message.Message.TheVariants.{New, Poke}

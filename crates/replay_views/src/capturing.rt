@@ -4,7 +4,7 @@ ghost use Rattle.std.specs.Int.{w32, from_be_bytes};
 
 use crate::outcomes::write_view;
 use exchange_commands::{
-    PeerOfPlan, Received, ReplayError, ReplayFiles, Stop, Viewer, replay_with, tell_outcome,
+    PeerOfPlan, ReceivedDatagram, ReplayError, ReplayFiles, Stop, Viewer, replay_with, tell_outcome,
 };
 use packet_capture::{Capture, CaptureError, Packet, UdpEndpoint};
 use peer_plan::Endpoint;
@@ -59,8 +59,8 @@ impl CaptureViewer {
 }
 
 impl Viewer for CaptureViewer {
-    fn received(&mut self, datagram: Received<'_>) -> Result<(), Stop> {
-        let Received {
+    fn received(&mut self, datagram: ReceivedDatagram<'_>) -> Result<(), Stop> {
+        let ReceivedDatagram {
             moment,
             peer,
             octets,

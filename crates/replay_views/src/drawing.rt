@@ -4,7 +4,7 @@ ghost use Rattle.std.specs.Prelude.{◌≡◌, ◌<◌, length};
 use crate::outcomes::{kept, write_view};
 use call_ladder::{DatagramEvent, Direction, Ladder};
 use exchange_commands::{
-    PeerOfPlan, Received, ReplayError, ReplayFiles, ScriptLine, Stop, Viewer, replay_with,
+    PeerOfPlan, ReceivedDatagram, ReplayError, ReplayFiles, ScriptLine, Stop, Viewer, replay_with,
     tell_outcome,
 };
 use exchange_report::{refusal_name, stage_name};
@@ -72,8 +72,8 @@ impl Viewer for LadderViewer {
         kept(self.order(moment, line))
     }
 
-    fn received(&mut self, datagram: Received<'_>) -> Result<(), Stop> {
-        let Received {
+    fn received(&mut self, datagram: ReceivedDatagram<'_>) -> Result<(), Stop> {
+        let ReceivedDatagram {
             moment,
             peer,
             octets,

@@ -12,7 +12,7 @@ use Rattle.std.proofs.Common.{[], ◌∷◌}
 use Rattle.std.proofs.Crossing.{crosses}
 use Rattle.std.specs.declared.sync.ledger.Ledger as ledger
 use Rattle.udp_wires.specs.declared.wire.Wire as wire
-use Rattle.udp_workers.specs.contracts.seat.Place as place
+use Rattle.udp_workers.specs.contracts.seat.SeatState as place
 use Rattle.udp_workers.specs.contracts.seat.Seat as seat
 use Rattle.udp_workers.specs.contracts.seat.WatchedExchange as watched
 use Rattle.udp_workers.specs.declared.seat.PlanBrand as post

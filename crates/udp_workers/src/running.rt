@@ -10,7 +10,7 @@ ghost use Rattle.udp_workers.specs.Ticked.{IsLater};
 use crate::inbox::Inbox;
 use crate::intake::Intake;
 use crate::report::TurnReport;
-use crate::sources::{Challenges, Moments};
+use crate::sources::{Challenges, TurnClock};
 use crate::tally::Tally;
 use crate::turning::{Turn, TurnEnd};
 use crate::unwatched::Unwatched;
@@ -99,7 +99,7 @@ fn ticks_all(intake: Intake, before: Option<u64>, time: u64, was_full: bool) -> 
 impl Worker {
     /// Makes `turns` turns, each with its own moment, in milliseconds since the exchange was opened, and its own challenge.
     /// Waits for a datagram between them, at most 20 ms. Returns the sum of their reports.
-    pub fn run<W: Wire, G: Gate, J: LedgerSet, M: Moments, C: Challenges, R: Wait>(
+    pub fn run<W: Wire, G: Gate, J: LedgerSet, M: TurnClock, C: Challenges, R: Wait>(
         &mut self,
         rt: &R,
         wire: &mut W,
@@ -163,7 +163,15 @@ impl Worker {
     /// left out a peer the worker waits at most 1 ms.
     ///
     /// At the end of a turn the watch is asked to wake each other worker at whose peers the turn made steps.
-    pub fn run_until<W: Wire, V: Watch, G: Gate, J: LedgerSet, M: Moments, C: Challenges, R: Wait>(
+    pub fn run_until<
+        W: Wire,
+        V: Watch,
+        G: Gate,
+        J: LedgerSet,
+        M: TurnClock,
+        C: Challenges,
+        R: Wait,
+    >(
         &mut self,
         rt: &R,
         wire: &mut W,

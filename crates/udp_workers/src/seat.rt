@@ -6,7 +6,7 @@ ghost use Rattle.udp_workers.specs.Served.{AreEndpoints, peers_of};
 
 use crate::intake::Intake;
 use crate::report::TurnReport;
-use crate::sources::{Challenges, Moments};
+use crate::sources::{Challenges, TurnClock};
 use crate::worker::Worker;
 use exchange_core::{Exchange, Gate, Pass, Watch};
 use peer_lock::LedgerSet;
@@ -52,9 +52,9 @@ pub struct Start {
 /// the wire since that run began, and each call of the wire that failed. Each datagram that it counts as received and not
 /// as refused made a step under the pass.
 #[derive(Drop)]
-pub struct Place<
+pub struct SeatState<
     W: Wire + Drop,
-    M: Moments + Drop,
+    M: TurnClock + Drop,
     C: Challenges + Drop,
     J: LedgerSet,
     P: PlanBrand,
@@ -87,13 +87,13 @@ fn start_of<W: Wire, J: LedgerSet>(wire: &W, pass: &Pass<J>) -> Start
     }
 }
 
-impl<W: Wire + Drop, M: Moments + Drop, C: Challenges + Drop, J: LedgerSet, P: PlanBrand> Place<
-    W,
-    M,
-    C,
-    J,
-    P,
-> {
+impl<
+    W: Wire + Drop,
+    M: TurnClock + Drop,
+    C: Challenges + Drop,
+    J: LedgerSet,
+    P: PlanBrand,
+> SeatState<W, M, C, J, P> {
     ghost use Rattle.udp_workers.specs.Events.{CountsSends, MakesTurns, Tells, nothing};
     ghost use Rattle.udp_workers.specs.Handed.{GivesAll};
     ghost use Rattle.udp_workers.specs.Intake.{RunsTurns};
@@ -142,15 +142,15 @@ impl<W: Wire + Drop, M: Moments + Drop, C: Challenges + Drop, J: LedgerSet, P: P
 #[derive(Drop)]
 pub struct Seat<
     W: Wire + Drop,
-    M: Moments + Drop,
+    M: TurnClock + Drop,
     C: Challenges + Drop,
     J: LedgerSet,
     P: PlanBrand,
 > {
-    place: Mutex<Place<W, M, C, J, P>>,
+    place: Mutex<SeatState<W, M, C, J, P>>,
 }
 
-impl<W: Wire + Drop, M: Moments + Drop, C: Challenges + Drop, J: LedgerSet, P: PlanBrand> Seat<
+impl<W: Wire + Drop, M: TurnClock + Drop, C: Challenges + Drop, J: LedgerSet, P: PlanBrand> Seat<
     W,
     M,
     C,
@@ -165,7 +165,7 @@ impl<W: Wire + Drop, M: Moments + Drop, C: Challenges + Drop, J: LedgerSet, P: P
     {
         let start = start_of(&wire, &pass);
         Seat {
-            place: Mutex::new(Place {
+            place: Mutex::new(SeatState {
                 worker,
                 wire,
                 pass,
@@ -194,7 +194,7 @@ impl<W: Wire + Drop, M: Moments + Drop, C: Challenges + Drop, J: LedgerSet, P: P
     }
 
     /// Returns the worker with the resources of its run, and the sum of the reports of its last run.
-    pub fn into_place(self) -> Place<W, M, C, J, P> {
+    pub fn into_state(self) -> SeatState<W, M, C, J, P> {
         let Seat { place } = self;
         place.into_inner()
     }

@@ -2,7 +2,7 @@
 use call_auth::Challenge;
 
 /// Supplies the moments of a run.
-pub trait Moments {
+pub trait TurnClock {
     /// Returns the milliseconds since the exchange was opened.
     fn now(&mut self) -> u64;
 }

@@ -3,7 +3,7 @@ ghost use Rattle.std.specs.Prelude.{◌≡◌, ◌≤◌, [], IsFalse, IsOk, len
 
 use crate::intake::Intake;
 use crate::seat::{PlanBrand, Seat, WatchedExchange};
-use crate::sources::{Challenges, Moments};
+use crate::sources::{Challenges, TurnClock};
 use crate::unwatched::Unwatched;
 use exchange_core::{Exchange, Gate, Watch};
 use peer_lock::LedgerSet;
@@ -25,7 +25,7 @@ pub struct NoThread;
 /// `NoThread`: a thread was refused. Seats whose thread was refused are unchanged, the others have run.
 pub fn run_all<
     W: Wire + Drop + Send,
-    M: Moments + Drop + Send,
+    M: TurnClock + Drop + Send,
     C: Challenges + Drop + Send,
     G: Gate + Sync,
     J: LedgerSet,
@@ -74,7 +74,7 @@ impl<'s, V: Watch + Sync, G: Gate + Sync, J: LedgerSet, P: PlanBrand + Send + Sy
     pub fn start_until<
         E,
         W: Wire + Drop + Send,
-        M: Moments + Drop + Send,
+        M: TurnClock + Drop + Send,
         C: Challenges + Drop + Send,
         R: Wait + Sync,
     >(&'s self, rt: &'s R, scope: &Scope<'s, E>, seats: &'s [Seat<W, M, C, J, P>]) -> bool
@@ -94,7 +94,7 @@ impl<'s, V: Watch + Sync, G: Gate + Sync, J: LedgerSet, P: PlanBrand + Send + Sy
     // no thread was refused.
     fn run_beside<
         W: Wire + Drop + Send,
-        M: Moments + Drop + Send,
+        M: TurnClock + Drop + Send,
         C: Challenges + Drop + Send,
         R: Threads + Wait + Sync,
     >(&self, rt: &R, others: &[Seat<W, M, C, J, P>], last: &Seat<W, M, C, J, P>) -> bool {

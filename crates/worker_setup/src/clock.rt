@@ -1,7 +1,7 @@
 //! Moments by the clock of the system.
 use std::time::{Clock, Instant};
 use trace_writer::Trace;
-use udp_workers::Moments;
+use udp_workers::TurnClock;
 
 /// Returns the milliseconds since an exchange was opened, and reports them to the trace if there is one. If the clock can't
 /// be read, it returns the last ones again.
@@ -15,7 +15,7 @@ pub struct SinceOpening<'t, R: Clock> {
     pub(crate) thread: usize,
 }
 
-impl<'t, R: Clock> Moments for SinceOpening<'t, R> {
+impl<'t, R: Clock> TurnClock for SinceOpening<'t, R> {
     // If the clock can't be read, the moment stays the same.
     fn now(&mut self) -> u64 {
         if let Ok(elapsed) = self.opened.elapsed(self.rt) {

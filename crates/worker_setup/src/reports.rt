@@ -6,13 +6,13 @@ use std::alloc::Global;
 use std::io;
 use std::io::Write;
 use udp_wires::Wire;
-use udp_workers::{Challenges, Moments, Place, PlanBrand, Seat, TurnReport};
+use udp_workers::{Challenges, PlanBrand, Seat, SeatState, TurnClock, TurnReport};
 
 // Returns a worker's report and its pass.
-fn report_of<W: Wire + Drop, M: Moments + Drop, C: Challenges + Drop, J: LedgerSet, P: PlanBrand>(
+fn report_of<W: Wire + Drop, M: TurnClock + Drop, C: Challenges + Drop, J: LedgerSet, P: PlanBrand>(
     seat: Seat<W, M, C, J, P>,
 ) -> (TurnReport, Pass<J>) {
-    let Place { report, pass, .. } = seat.into_place();
+    let SeatState { report, pass, .. } = seat.into_state();
     (report, pass)
 }
 
@@ -21,7 +21,7 @@ fn report_of<W: Wire + Drop, M: Moments + Drop, C: Challenges + Drop, J: LedgerS
 /// Returns `Memory` if a request for memory was refused. Then the seats are dropped, with their passes.
 pub fn reports_of<
     W: Wire + Drop,
-    M: Moments + Drop,
+    M: TurnClock + Drop,
     C: Challenges + Drop,
     J: LedgerSet,
     P: PlanBrand,

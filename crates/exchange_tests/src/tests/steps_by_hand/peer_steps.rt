@@ -8,7 +8,7 @@ ghost use Rattle.peer_lock.specs.Unworked.{IsCutFrame};
 use crate::tests::steps_by_hand::made::{Given, Gone};
 use crate::tests::steps_by_hand::plain::Plain;
 use call_book::{LegName, PeerId};
-use call_control::{Act, Heard, Need, Reply, Work};
+use call_control::{Act, Need, Reply, StepReply, Work};
 use iax_frames::{Datagram, Full, read};
 use info_elements::elements;
 use leg_machine::{Caller, Formats, Message, Order};
@@ -84,11 +84,11 @@ fn octets_in(rt: &impl Abort, order: &Order<'_>) -> u64
 
 impl<J: LedgerSet> Plain<'_, J> {
     // Gives a datagram to its peer.
-    fn hears(&mut self, peer: u16, given: &Given<'_>) -> Result<Heard, PeerError> {
+    fn hears(&mut self, peer: u16, given: &Given<'_>) -> Result<StepReply, PeerError> {
         let mut onwards = Onwards::new(self.alloc);
         let state = self.peers.at(peer);
         let step = state.datagram(&mut self.pass, given.octets, given.now, &mut onwards)?;
-        Ok(Heard {
+        Ok(StepReply {
             touched: step.touched,
             rejected: step.rejected,
             onwards,
@@ -101,14 +101,14 @@ impl<J: LedgerSet> Plain<'_, J> {
         rt: &impl Abort,
         peer: u16,
         given: &Given<'_>,
-    ) -> Result<Heard, OpenError> {
+    ) -> Result<StepReply, OpenError> {
         let lease = self.lease.take().expect(rt, "a lease");
         let frame = opening_of(given.octets).expect(rt, "a NEW");
         let mut onwards = Onwards::new(self.alloc);
         let state = self.peers.at(peer);
         let (pass, challenge) = (&mut self.pass, &self.challenge);
         match state.open_in(pass, lease, &frame, given.now, challenge, &mut onwards) {
-            Ok(step) => Ok(Heard {
+            Ok(step) => Ok(StepReply {
                 touched: step.touched,
                 rejected: step.rejected,
                 onwards,

@@ -16,13 +16,13 @@ use std::sync::Wait;
 use std::sync::atomic::Ordering;
 use std::test::*;
 use std::thread::Threads;
-use udp_workers::{Challenges, Moments, PlanBrand, Seat, Worker, run_all};
+use udp_workers::{Challenges, PlanBrand, Seat, TurnClock, Worker, run_all};
 
 /// Moment 0.
 #[derive(Drop)]
 pub struct AtOnce;
 
-impl Moments for AtOnce {
+impl TurnClock for AtOnce {
     fn now(&mut self) -> u64 {
         0
     }
@@ -84,7 +84,7 @@ fn turns_of<J: LedgerSet, P: PlanBrand>(
 ) -> u64 {
     let mut turns: u64 = 0;
     for seat in seats {
-        let place = seat.into_place();
+        let place = seat.into_state();
         turns = turns.wrapping_add(place.worker.turns());
         passes.push(place.pass).expect(rt, "room for a pass");
     }

@@ -14,9 +14,9 @@ use Rattle.call_signals.specs.declared.cause.Cause.{Cause}
 use Rattle.call_signals.specs.declared.format.Format.{Format}
 use Rattle.call_signals.specs.declared.signal.Indication.{Indication}
 use Rattle.call_signals.specs.declared.signal.Indication.TheVariants.{Ringing, Progress, Proceeding}
-use Rattle.call_signals.specs.declared.reply.Reply.{Reply}
-use Rattle.call_signals.specs.declared.reply.Reply.TheVariants.{AuthReq, AuthRep, Accept, Reject, Hangup, Ping, Pong, LagRp}
-use Rattle.call_signals.specs.declared.reply.Reply.TheVariants.{Unsupport, Indicate, Answer, Dtmf}
+use Rattle.call_signals.specs.declared.reply.ReplyFrame.{ReplyFrame}
+use Rattle.call_signals.specs.declared.reply.ReplyFrame.TheVariants.{AuthReq, AuthRep, Accept, Reject, Hangup, Ping, Pong, LagRp}
+use Rattle.call_signals.specs.declared.reply.ReplyFrame.TheVariants.{Unsupport, Indicate, Answer, Dtmf}
 
 abbrev pub cause_elements : Cause → List ℕ
 cause_elements cause = element_of CAUSE (cause_text cause) ++ element_of CAUSECODE (cause_code cause ∷ [])
@@ -36,7 +36,7 @@ auth_req_elements user challenge =
     element_if USERNAME user ++ element_of AUTHMETHODS (0 ∷ 2 ∷ []) ++ element_of CHALLENGE challenge
 
 -- DTMF, control and IAX frames
-abbrev pub type_of : Reply → ℕ
+abbrev pub type_of : ReplyFrame → ℕ
 type_of (Dtmf digit) = FRAME_DTMF
 type_of (Indicate indication) = FRAME_CONTROL
 type_of Answer = FRAME_CONTROL
@@ -47,7 +47,7 @@ indication_subclass Ringing = CONTROL_RINGING
 indication_subclass Progress = CONTROL_PROGRESS
 indication_subclass Proceeding = CONTROL_PROCEEDING
 
-abbrev pub subclass_of : Reply → ℕ
+abbrev pub subclass_of : ReplyFrame → ℕ
 subclass_of AuthReq = IAX_AUTHREQ
 subclass_of (AuthRep digits) = IAX_AUTHREP
 subclass_of (Accept format) = IAX_ACCEPT
@@ -62,7 +62,7 @@ subclass_of Answer = CONTROL_ANSWER
 subclass_of (Dtmf digit) = digit
 
 -- PONG and LAGRP have the timestamp of the frame that they answer
-abbrev pub timestamp_of : Reply → ℕ → ℕ
+abbrev pub timestamp_of : ReplyFrame → ℕ → ℕ
 timestamp_of (Pong timestamp) present = timestamp
 timestamp_of (LagRp timestamp) present = timestamp
 timestamp_of _ present = present
