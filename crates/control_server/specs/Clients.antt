@@ -85,7 +85,8 @@ gives_way_at Ended is_stuck = true
 abbrev pub gives_way : ℕ → Client → Bool
 gives_way now client = gives_way_at client.stage (nat_le 1000 (now - client.active))
 
--- Only clients that give way were closed: whatever the others weigh, those that are left weigh no less.
+-- Only clients that give way were closed. If these weigh nothing, and each of the others any weight, then those that are
+-- left weigh no less than all did.
 abbrev pub SparesOthers : ℕ → List Client → List Client → Type 0
 SparesOthers now old new = (weight : Client → ℕ) → ((client : Client) → gives_way now client ≡ true → weight client ≡ 0)
     → sum_by weight old ≤ sum_by weight new

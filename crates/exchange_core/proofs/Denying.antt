@@ -184,7 +184,7 @@ asked_over : (call : Call) (offer : Option Offer) (place : Place) (need : Need) 
 asked_over call offer (places.GiveBack name) (needs.Release other) reply next over unasked = unasked
 asked_over call offer place need reply next over unasked = absurd (cc)
 
--- what is left to be done of a refused call makes no step, and isn't refused
+-- the rest of a refused call makes no step, and isn't refused
 over_denies_none : (place : Place) (reply : Reply) → is_over place ≡ true → is_answer (next_at place) reply ≡ true
     → (is_made reply ≡ false) × (denial_of reply ≡ None)
 over_denies_none (places.GiveBack name) (replies.Release answer) over answers = (refl, refl)
@@ -203,7 +203,7 @@ rejecting_denies (places.RejectNew peer) (replies.RejectNew (Ok done)) here answ
 rejecting_denies (places.RejectNew peer) (replies.RejectNew (Err error)) here answers unmade none = cc
 rejecting_denies place reply here answers unmade none = cc
 
--- what isn't refused denies nothing, unless it leads to a rejection
+-- a step that isn't refused denies nothing, unless it leads to a rejection
 unrefused_denies_none : (place : Place) (reply : Reply) (rest : Rest) → is_refusal place reply ≡ false
     → is_rejecting (told_at place reply rest).place ≡ false
     → denial_of reply ≡ None
