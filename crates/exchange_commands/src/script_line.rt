@@ -1,6 +1,8 @@
 //! The lines of a script.
 ghost use Rattle.std.specs.List.{starts_with};
-ghost use Rattle.std.specs.Prelude.{◌≡◌, ◌∷◌, [], length, nat_eq, Some};
+ghost use Rattle.std.specs.Option.{SomeIff};
+ghost use Rattle.std.specs.Prelude.{◌≡◌, ◌<◌, ◌^◌, ◌∷◌, [], length, nat_eq, Some};
+ghost use Rattle.std.specs.Str.Parse.{IsNumeral, digits_value};
 ghost use Rattle.exchange_commands.specs.declared.script_line.ScriptLine.TheVariants.{Nothing};
 
 /// A parsed line.
@@ -48,7 +50,9 @@ pub enum ScriptLine<'a> {
 
 /// Returns the value of decimal digits, or `None` if there are none, if an octet isn't a digit, or if the value doesn't fit
 /// 64 bits.
-pub fn decimal(digits: &[u8]) -> Option<u64> {
+pub fn decimal(digits: &[u8]) -> Option<u64>
+    ensures { SomeIff result (IsNumeral 10 digits.now × digits_value 10 digits.now < 2 ^ 64) (digits_value 10 digits.now) }
+{
     if digits.is_empty() {
         return None;
     }
@@ -57,9 +61,13 @@ pub fn decimal(digits: &[u8]) -> Option<u64> {
         if !digit.is_ascii_digit() {
             return None;
         }
-        number = number
-            .checked_mul(10)?
-            .checked_add(u64::from(*digit - b'0'))?;
+        let Some(tenfold) = number.checked_mul(10) else {
+            return None;
+        };
+        let Some(next) = tenfold.checked_add(u64::from(*digit - b'0')) else {
+            return None;
+        };
+        number = next;
     }
     Some(number)
 }
