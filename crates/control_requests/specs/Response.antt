@@ -1,6 +1,7 @@
 -- The responses to clients, in HTTP/1.1 (RFC 9110, section 15; RFC 9112, section 4).
 use Rattle.std.specs.Prelude.{ℕ, ◌++◌, List, [], length, codes, decimal, Bool, true, false}
 use Rattle.serde_json.specs.Data.{Data, object, member, no_members, string}
+use Rattle.serde_json.specs.Written.{compact_text}
 use Rattle.control_requests.specs.declared.response.StatusCode.{StatusCode}
 use Rattle.control_requests.specs.declared.response.StatusCode.TheVariants as status
 use Rattle.control_requests.specs.declared.command.Methods.{Methods}
@@ -70,3 +71,7 @@ response_text status body =
 -- {"error": why}
 abbrev pub error_data : List ℕ → Data
 error_data why = object (member (codes "error") (string why) no_members)
+
+-- the response that names a fault
+abbrev pub refusal_text : StatusCode → List ℕ → List ℕ
+refusal_text status why = response_text status (compact_text (error_data why))

@@ -1,6 +1,11 @@
 -- The changes of a client while it is served, and that no other client changes.
 use Rattle.std.specs.Prelude.{◌≡◌, ◌≤◌, ◌-◌, ◌⊎◌, ℕ, List, Bool, true, false, Option, Some, None}
-use Rattle.std.specs.Prelude.{nat_le, slice_get, slice_set, sum_by, take, vec_len}
+use Rattle.std.specs.Prelude.{codes, nat_le, slice_get, slice_set, sum_by, take, vec_len}
+use Rattle.control_requests.specs.Requests.{Reads}
+use Rattle.control_requests.specs.Response.{refusal_text}
+use Rattle.control_requests.specs.declared.request.Reading.{Reading}
+use Rattle.control_requests.specs.declared.request.Reading.TheVariants.{Whole, Part, HeadTooLarge, BodyTooLarge, Malformed}
+use Rattle.control_requests.specs.declared.response.StatusCode.TheVariants as status
 use Rattle.control_server.specs.declared.client.Client.{Client}
 use Rattle.control_server.specs.declared.client.ClientStage.{ClientStage}
 use Rattle.control_server.specs.declared.client.ClientStage.TheVariants.{Asking, Answered, Draining, Ended}
@@ -66,6 +71,41 @@ pub record WasServed (old new : Client) : Type 0 where
   pub answered : new.stage ≡ Answered → (old.stage ≡ Asking) ⊎ (old.stage ≡ Answered)
   pub ended : old.stage ≡ Ended → new.stage ≡ Ended
   pub answer : old.stage ≡ Answered → new.stage ≡ Answered → new.output ≡ old.output
+
+-- the response to octets that neither are a request nor may become one
+abbrev pub fault_text : Reading → Option (List ℕ)
+fault_text (Whole request) = None
+fault_text Part = None
+fault_text HeadTooLarge = Some (refusal_text status.HeadTooLarge (codes "HeadTooLarge"))
+fault_text BodyTooLarge = Some (refusal_text status.TooLarge (codes "BodyTooLarge"))
+fault_text Malformed = Some (refusal_text status.BadRequest (codes "Malformed"))
+
+-- the octets have no fault
+abbrev pub HasNoFault : List ℕ → Type 0
+HasNoFault octets = (reading : Reading) × Reads octets reading × (fault_text reading ≡ None)
+
+-- A client that asked was answered with the fault of its octets, and is asking only if they have none.
+pub record IsAnsweredAtFault (old new : Client) : Type 0 where
+  pub fault : old.stage ≡ Asking → new.stage ≡ Answered →
+      (reading : Reading) × Reads new.input.items reading × (fault_text reading ≡ Some new.output.items)
+  pub asks : new.stage ≡ Asking → HasNoFault new.input.items
+
+-- it was served, and a fault of its octets was answered
+pub record WasHeardOut (old new : Client) : Type 0 where
+  pub served : WasServed old new
+  pub fault : IsAnsweredAtFault old new
+
+-- a whole request
+abbrev pub is_whole : Reading → Bool
+is_whole (Whole request) = true
+is_whole Part = false
+is_whole HeadTooLarge = false
+is_whole BodyTooLarge = false
+is_whole Malformed = false
+
+-- the octets are no whole request
+abbrev pub IsNoRequest : List ℕ → Type 0
+IsNoRequest octets = (reading : Reading) × Reads octets reading × (is_whole reading ≡ false)
 
 -- P relates the client that is found at a place before and after, and all others are as they were
 abbrev pub AtFound : (Client → Client → Type 0) → ℕ → List Client → List Client → Option Client → Type 0

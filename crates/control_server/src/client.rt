@@ -1,7 +1,9 @@
 //! One client: its octets come in until its request is complete, and then its answer is sent.
-ghost use Rattle.std.specs.Prelude.{◌≡◌, ◌≢◌, ◌⊎◌, ◌+◌, ◌<◌, [], IfOk, IsErr, IsFalse, vec_len};
+ghost use Rattle.std.specs.Prelude.{◌≡◌, ◌≢◌, ◌⊎◌, ◌+◌, ◌<◌, [], IfOk, IsErr, IsFalse, option_map, vec_len};
 ghost use Rattle.control_requests.specs.Requests.{Reads};
+ghost use Rattle.control_requests.specs.Response.{refusal_text};
 ghost use Rattle.control_server.specs.Clients.{WasHeard, WasServed, WasSpoken, has_ended, is_answered, kept_of};
+ghost use Rattle.control_server.specs.Clients.{IsAnsweredAtFault, fault_text};
 ghost use Rattle.control_requests.specs.declared.request.Reading.TheVariants.{Part};
 ghost use Rattle.control_server.specs.declared.client.ClientStage.TheVariants.{Asking, Answered, Draining, Ended};
 
@@ -156,6 +158,7 @@ impl Client {
     /// Without memory the client ends.
     pub fn hear(&mut self, alloc: Global, now: u64)
         ensures served { WasServed self.old self.new }
+        ensures fault { IsAnsweredAtFault self.old self.new }
         ensures bounded { vec_len self.old.input < 16384 → vec_len self.new.input < 16384 }
     {
         if self.take(now).is_err() {
@@ -260,13 +263,19 @@ impl Client {
     }
 }
 
-/// Returns an answer that names the fault.
-pub fn refusal(alloc: Global, status: StatusCode, why: &str) -> Result<Vec<u8>, AllocError> {
+/// Returns the octets of a response that names a fault: `{"error": why}`.
+///
+/// `AllocError`: a request for memory was refused.
+pub fn refusal(alloc: Global, status: StatusCode, why: &str) -> Result<Vec<u8>, AllocError>
+    ensures { IfOk result (λ octets. octets.items ≡ refusal_text status why.now) }
+{
     Response::error(alloc, status, why)?.octets(alloc)
 }
 
 // Returns the fault of a client's input.
-fn fault_of(reading: &Reading<'_>) -> Option<(StatusCode, &'static str)> {
+fn fault_of(reading: &Reading<'_>) -> Option<(StatusCode, &'static str)>
+    ensures { option_map (λ fault. refusal_text fault.0 fault.1.now) result ≡ fault_text reading.now }
+{
     match reading {
         Reading::HeadTooLarge => Some((StatusCode::HeadTooLarge, "HeadTooLarge")),
         Reading::BodyTooLarge => Some((StatusCode::TooLarge, "BodyTooLarge")),

@@ -1,10 +1,11 @@
 //! The clients of a service: they connect to a listener, send a request, and are answered, one after another.
 ghost use Rattle.std.specs.Prelude.{◌≡◌, ◌+◌, ◌-◌, ◌^◌, ◌<◌, ◌≤◌, ◌↔◌, []};
-ghost use Rattle.std.specs.Prelude.{IfOk, IfSome, IsErr, IsFalse, IsTrue, filter, min, not, slice_get, sum_by, true, vec_len};
+ghost use Rattle.std.specs.Prelude.{IfNone, IfOk, IfSome, IsErr, IsFalse, IsTrue, filter, min, not, slice_get, sum_by, true, vec_len};
 ghost use Rattle.std.specs.List.{list_any};
 ghost use Rattle.control_requests.specs.Requests.{Reads};
 ghost use Rattle.control_requests.specs.declared.request.Reading.TheVariants.{Whole, Part};
-ghost use Rattle.control_server.specs.Clients.{WasServed, At, SparesOthers, has_ended, is_answered, kept_of};
+ghost use Rattle.control_server.specs.Clients.{WasHeardOut, WasServed, At, SparesOthers, has_ended, is_answered, kept_of};
+ghost use Rattle.control_server.specs.Clients.{IsNoRequest};
 ghost use Rattle.control_server.specs.Clients as spec;
 ghost use Rattle.control_server.specs.declared.client.ClientStage.TheVariants.{Asking, Answered, Draining, Ended};
 
@@ -260,7 +261,7 @@ impl Clients {
     /// Reads the available input of the client at a place. Input that isn't a valid request is answered here with the
     /// fault.
     pub fn hear(&mut self, place: usize, now: u64)
-        ensures { At WasServed place self.old.clients.items self.new.clients.items }
+        ensures { At WasHeardOut place self.old.clients.items self.new.clients.items }
     {
         let alloc = self.alloc;
         if let Some(client) = self.clients.get_mut(place) {
@@ -277,6 +278,8 @@ impl Clients {
         ensures whole { IfSome result (λ found.
             IfSome (slice_get self.now.clients.items place) (λ client. Reads client.input.items (Whole found.1))) }
         ensures there { IfSome result (λ found. place < vec_len self.now.clients) }
+        ensures none { IfNone result (IfSome (slice_get self.now.clients.items place) (λ client.
+            client.stage ≡ Asking → IsNoRequest client.input.items)) }
     {
         let client = self.clients.get(place)?;
         if client.stage != ClientStage::Asking {
