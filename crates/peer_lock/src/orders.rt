@@ -7,7 +7,7 @@ ghost use Rattle.leg_machine.specs.Media.{media_sent};
 ghost use Rattle.call_signals.specs.declared.outcomes.Judged.TheVariants.{Unnumbered};
 ghost use Rattle.peer_legs.specs.Legs.{NamedLeg as NamedLegValue, leg_at};
 ghost use Rattle.peer_lock.specs.Peer.{counted, leg_alone};
-ghost use Rattle.peer_lock.specs.Orders.{counted_media, queued_media, waiting_media, carries_media, with_media, with_order};
+ghost use Rattle.peer_lock.specs.Orders.{counted_media, queued_media, carries_media, with_media, with_order};
 ghost use Rattle.peer_lock.specs.Orders.{from_leg_due, IsOrderRefusal};
 ghost use Rattle.peer_lock.specs.Orders.{WasOrdered, order_octets};
 ghost use Rattle.iax_frames.specs.TrunkFrame.{head_len};
@@ -62,29 +62,8 @@ impl<J: LedgerSet> PeerState<J> {
         }
     }
 
-    // Queues media to wait for a trunk frame. The queue is sent first if this begins the next frame.
-    fn wait_for_frame(
-        &mut self,
-        pass: &mut Pass<J>,
-        number: CallNumber,
-        timestamp: u16,
-        media: &[u8],
-        now: u64,
-    )
-        requires short { length media.now ≤ 1380 }
-        requires credit { length media.now ≤ pass.old.octets }
-        ensures peer { self.new ≡
-            waiting_media self.old (record { number = number; timestamp = timestamp; media = media.now }) now }
-        ensures octets { pass.new.octets + length media.now ≡ pass.old.octets }
-        ensures steps { pass.new.steps ≡ pass.old.steps }
-    {
-        let goes = is_next(&self.rules, &self.queue, number, media.len());
-        self.flush(goes);
-        self.queue_media(pass, number, timestamp, media, now);
-    }
-
     // Sends media on after its leg accepted it, and counts it. Without a full frame it waits for a trunk frame or is sent
-    // in a mini frame.
+    // in a mini frame. The queue is sent first if this begins the next trunk frame.
     fn carry_media(
         &mut self,
         pass: &mut Pass<J>,
@@ -105,7 +84,9 @@ impl<J: LedgerSet> PeerState<J> {
             MediaSent::Quelched => self.account.carry(pass, octets, Carried::Quelched),
             MediaSent::Voice => self.account.carry(pass, octets, Carried::Packed),
             MediaSent::Mini(timestamp) if self.rules.trunk => {
-                self.wait_for_frame(pass, number, timestamp, media, now)
+                let goes = is_next(&self.rules, &self.queue, number, media.len());
+                self.flush(goes);
+                self.queue_media(pass, number, timestamp, media, now)
             }
             MediaSent::Mini(timestamp) => {
                 self.outbox.put_mini(number, timestamp, media);
