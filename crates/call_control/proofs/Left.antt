@@ -1,5 +1,5 @@
 -- The media and the datagrams that a call has left, and those that a datagram brings.
-use Rattle.call_control.specs.declared.act.Act.TheVariants as acts
+use Rattle.call_signals.specs.declared.order.Command.TheVariants as commands
 use Rattle.call_control.specs.declared.place.Place.TheVariants as places
 use Rattle.call_control.specs.declared.reply.Reply.TheVariants as replies
 use Rattle.call_signals.specs.declared.signal.Signal.TheVariants as signals
@@ -23,7 +23,7 @@ use Rattle.call_control.proofs.Prelude.{◌≡◌, Some, None, Bool, true, false
 use Rattle.call_control.proofs.Prelude.{inr, ◌⊎◌, Option, cond, length, map, sym, subst, AllByRecursion, Ok, Err, is_same}
 use Rattle.call_control.proofs.Prelude.{LegName, signals_put, step_puts, OpensFew, brought_by, datagrams_left, need_puts}
 use Rattle.call_control.proofs.Prelude.{place_puts, rest_puts, touched_puts, Work, Rest, next_at, next_of, go_on, after_status}
-use Rattle.call_control.proofs.Prelude.{told_at, after_told, place_for, passed_on, go_on_from, Act, Place, Reply, Cause}
+use Rattle.call_control.proofs.Prelude.{told_at, after_told, place_for, passed_on, go_on_from, Command, Place, Reply, Cause}
 use Rattle.call_control.proofs.Prelude.{MediaSpan, Signal, MediaTaken, datagram_step, delivered_step, entries_media, entry_span}
 use Rattle.call_control.proofs.Prelude.{mini_span, taken_at, NamedLeg, PeerLegs, leg_of_remote, opens_in, PeerView}
 
@@ -65,20 +65,20 @@ left_octets work reply = grind (arith, onward_octets)
 -- the media of a place is carried away, or stays
 rest_within : (len : ℕ) (place : Place) (onward : List (LegName × Signal)) → Within len (media_at place ++ onward)
     → Within len onward
-rest_within len (places.Finding name (acts.Media span)) onward all = all.1
-rest_within len (places.Passing partner (acts.Media span)) onward all = all.1
+rest_within len (places.Finding name (commands.Media span)) onward all = all.1
+rest_within len (places.Passing partner (commands.Media span)) onward all = all.1
 rest_within len place onward all = all
 
-found_within : (len : ℕ) (name partner : LegName) (act : Act) (onward : List (LegName × Signal))
-    → Within len (media_of name act ++ onward) → Within len (media_of partner act ++ onward)
-found_within len name partner (acts.Media span) onward all = all
-found_within len name partner act onward all = all
+found_within : (len : ℕ) (name partner : LegName) (command : Command MediaSpan) (onward : List (LegName × Signal))
+    → Within len (media_of name command ++ onward) → Within len (media_of partner command ++ onward)
+found_within len name partner (commands.Media span) onward all = all
+found_within len name partner command onward all = all
 
 -- these answers hand up signals, or find the partner that the media is for
 abbrev brings_media : Place → Reply → Bool
 brings_media (places.Datagram peer) (replies.Datagram (Ok heard)) = true
 brings_media (places.OpenIn name) (replies.OpenIn (Ok heard)) = true
-brings_media (places.Finding name act) reply = true
+brings_media (places.Finding name command) reply = true
 brings_media place reply = false
 
 -- after all others the media is what was left, or none
@@ -96,7 +96,7 @@ one_of : (place : Place) (reply : Reply) (rest : Rest) → brings_media place re
 one_of place (replies.Datagram result) rest apart = grind arith
 one_of (places.Looking name) (replies.Look (Some status)) rest apart = looked (is_same status.name name) status.owes status.name
     status.cause rest
-one_of (places.Passing partner act) (replies.Order (Err error)) rest apart = grind arith
+one_of (places.Passing partner command) (replies.Order (Err error)) rest apart = grind arith
 one_of place reply rest apart = grind arith
 
 one_within : (len : ℕ) (rest : Rest) (left : List (LegName × Signal)) → IsOneOf rest left → Within len rest.onward
@@ -112,10 +112,11 @@ told_within len (places.Datagram peer) (replies.Datagram (Ok heard)) rest all mo
     heard.touched rest.looks more
 told_within len (places.OpenIn name) (replies.OpenIn (Ok heard)) rest all more = onward_within len heard.onwards.signals
     heard.touched rest.looks more
-told_within len (places.Finding name act) (replies.Partner (Some partner)) rest all more = found_within len name partner act
+told_within len (places.Finding name command) (replies.Partner (Some partner)) rest all more =
+    found_within len name partner command
     rest.onward all
-told_within len (places.Finding name act) reply rest all more = onward_within len rest.onward rest.touched rest.looks
-    (rest_within len (places.Finding name act) rest.onward all)
+told_within len (places.Finding name command) reply rest all more = onward_within len rest.onward rest.touched rest.looks
+    (rest_within len (places.Finding name command) rest.onward all)
 told_within len place reply rest all more = one_within len rest _ (one_of place reply rest refl)
     (rest_within len place rest.onward all)
 
@@ -140,7 +141,7 @@ told_puts (places.Looking name) (replies.Look (Some status)) rest few = omega (
   arith,
   looked_puts (is_same status.name name) status.owes status.name status.cause rest,
 )
-told_puts (places.Passing partner act) (replies.Order (Err error)) rest few = grind (arith, onward_puts)
+told_puts (places.Passing partner command) (replies.Order (Err error)) rest few = grind (arith, onward_puts)
 told_puts place reply rest few = grind (arith, onward_puts)
 
 -- ---- the datagrams that follow from the signals of a datagram and from the leg that it touches

@@ -2,11 +2,11 @@
 use Rattle.call_control.specs.declared.place.Place.TheVariants as places
 use Rattle.call_control.specs.Beginnings.{beginning_at}
 use Rattle.call_control.proofs.Prelude.{◌≡◌, Some, None, false, refl, ℕ, List, [], ◌∷◌, arith, Option, LegName, is_first}
-use Rattle.call_control.proofs.Prelude.{go_on_from, in_hand, Act, Place, Signal}
+use Rattle.call_control.proofs.Prelude.{go_on_from, in_hand, Command, Place, Signal, MediaSpan}
 
 -- an equation that holds at each place to which the next signal can lead holds at the one to which it leads
 module _ {A : Type 0} (f : Place → A) (routed : (name : LegName) → f (places.Routing name) ≡ f places.End)
-    (found : (name : LegName) (act : Act) → f (places.Finding name act) ≡ f places.End)
+    (found : (name : LegName) (command : Command MediaSpan) → f (places.Finding name command) ≡ f places.End)
     (looked : (name : LegName) → f (places.Looking name) ≡ f places.End)
     (looked_at : (peer number : ℕ) → f (places.LookingAt peer number) ≡ f places.End) where
   pub onward_at : (onward : List (LegName × Signal)) (touched : Option LegName) (looks : List (ℕ × ℕ))

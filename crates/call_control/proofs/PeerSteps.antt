@@ -10,12 +10,13 @@ use Rattle.call_control.specs.Scene.{opens_in}
 use Rattle.call_control.proofs.Prelude.{◌≡◌, Some, None, Bool, true, false, refl, ℕ, zero, suc, ◌+◌, ◌≤◌, List, [], ◌∷◌, ◌++◌, ap}
 use Rattle.call_control.proofs.Prelude.{arith, inl, inr, Option, cond, length, sym, subst, ◌∙◌, is_some, ◌==◌, ◌-◌, ◌≢◌, ◌<◌}
 use Rattle.call_control.proofs.Prelude.{cases_Bool, eqb-true, ltb-true, nat_tests, Ok, Err, nat_le, option_map, if◌then◌else◌}
-use Rattle.call_control.proofs.Prelude.{nat_lt, is_same, LegName, act_kind, handed_up, Leg, Scene, Choice, RefusesOrder, Brings}
+use Rattle.call_control.proofs.Prelude.{nat_lt, is_same, LegName, kind_of, handed_up, Leg, Scene, Choice, RefusesOrder, Brings}
 use Rattle.call_control.proofs.Prelude.{HasMedia, Lapses, Opens, leg_at, leg_named, replaced, without, Answer, answer, brought}
 use Rattle.call_control.proofs.Prelude.{brings, all_media, all_lapsed, is_leased, dropped, can_open, busy_in, opens_out, busy_out}
 use Rattle.call_control.proofs.Prelude.{carried, obeys, at_leg, at_order, status_of, told_cause, is_done, retires, keeps}
 use Rattle.call_control.proofs.Prelude.{answered, if_named, let_lapse, lapsed_at, Goes, TellsCause, media_up, heard, seen_reply}
-use Rattle.call_control.proofs.Prelude.{look_of, Sees, AreApart, IsWorldStep, Act, Need, Reply, MediaSpan, Stage, frame_effect}
+use Rattle.call_control.proofs.Prelude.{look_of, Sees, AreApart, IsWorldStep, Command, Need, Reply, MediaSpan, Stage}
+use Rattle.call_control.proofs.Prelude.{frame_effect}
 use Rattle.call_control.proofs.Prelude.{opening_effect, stage_after, Lapse, SeenLeg, moved, fresh_leg, ordered, lapsed, NamedLeg}
 use Rattle.call_control.proofs.Prelude.{PeerLegs, peer_leg_at, filled, PeerStep, SeenNamed, seen_named, seen_at, TurnsAt}
 use Rattle.call_control.proofs.Prelude.{OrderError, same_name}
@@ -139,58 +140,59 @@ module _ (scene : Scene) (called : Bool) (old : PeerLegs) (sees : Sees scene.leg
           looks = found.looks;
         }
 
-    pub order_is : (new : PeerLegs) (act : Act) → peer.Obeys old new name (act_kind act)
-        → IsWorldStep scene (needs.Order name act) called old new (replies.Order (Ok tt)) scene.leases
-    order_is new act o =
+    pub order_is : (new : PeerLegs) (command : Command MediaSpan) → peer.Obeys old new name (kind_of command)
+        → IsWorldStep scene (needs.Order name command) called old new (replies.Order (Ok tt)) scene.leases
+    order_is new command o =
         let found = named_in o.before o.at in
         let leg = found.leg in
-        let leads : stage_after (act_kind act) leg.seen.stage ≡ Some o.order.0 =
-        ap (λ (n : SeenNamed). stage_after (act_kind act) n.seen.stage) found.looks ∙ o.order.1 in
-        let after : record { name = name; seen = o.after } ≡ look_of (carried (act_kind act) leg o.order.0) =
+        let leads : stage_after (kind_of command) leg.seen.stage ≡ Some o.order.0 =
+        ap (λ (n : SeenNamed). stage_after (kind_of command) n.seen.stage) found.looks ∙ o.order.1 in
+        let after : record { name = name; seen = o.after } ≡ look_of (carried (kind_of command) leg o.order.0) =
         λ i. record {
           name = sym (ap (λ (n : SeenNamed). n.name) found.looks) i;
-          seen = (o.order.2 ∙ (λ j. ordered (act_kind act) (sym (ap (λ (n : SeenNamed). n.seen) found.looks) j) o.order.0)) i;
+          seen = (o.order.2 ∙ (λ j. ordered (kind_of command) (sym (ap (λ (n : SeenNamed). n.seen) found.looks) j) o.order.0)) i;
         } in
         let there : leg_at scene.legs old.peer name.number ≡ Some leg =
         ap (λ (peer : ℕ). leg_at scene.legs peer name.number) (sym is)
         ∙ (found_if name (leg_at scene.legs name.peer name.number) leg found.at).0 in
-        world_step Goes (obeys scene (act_kind act) leg (Some o.order.0))
-        (ap (λ (l : Option Leg). at_leg scene (act_kind act) l Goes) found.at ∙ ap (obeys scene (act_kind act) leg) leads) refl
-        (turned_sees scene.legs old new name.number leg (carried (act_kind act) leg o.order.0) sees there refl
+        world_step Goes (obeys scene (kind_of command) leg (Some o.order.0))
+        (ap (λ (l : Option Leg). at_leg scene (kind_of command) l Goes) found.at ∙ ap (obeys scene (kind_of command) leg) leads)
+        refl (turned_sees scene.legs old new name.number leg (carried (kind_of command) leg o.order.0) sees there refl
         (subst (λ (n : SeenNamed). TurnsAt old new name.number (Some n)) after o.turns)) refl refl
 
-    module _ (act : Act) where
+    module _ (command : Command MediaSpan) where
       -- a leg that is there refuses, in a stage that is a right one or isn't
-      there_refuses : (error : OrderError) (right : Bool) → peer.Refuses old name (act_kind act) error right
+      there_refuses : (error : OrderError) (right : Bool) → peer.Refuses old name (kind_of command) error right
           → (leg : Leg) × (leg_named scene.legs name ≡ Some leg)
-          × (is_some (stage_after (act_kind act) leg.seen.stage) ≡ right)
+          × (is_some (stage_after (kind_of command) leg.seen.stage) ≡ right)
       there_refuses error right r =
           let found = named_in r.before r.at in (
             found.leg,
             found.at,
-            ap (λ (n : SeenNamed). is_some (stage_after (act_kind act) n.seen.stage)) found.looks ∙ r.right,
+            ap (λ (n : SeenNamed). is_some (stage_after (kind_of command) n.seen.stage)) found.looks ∙ r.right,
           )
 
-      no_room : (error : OrderError) → peer.Refuses old name (act_kind act) error true
-          → at_order scene name (act_kind act) (RefusesOrder error) ≡ at_leg scene (act_kind act) (leg_named scene.legs name)
-          (RefusesOrder error) → IsWorldStep scene (needs.Order name act) called old old (replies.Order (Err error)) scene.leases
+      no_room : (error : OrderError) → peer.Refuses old name (kind_of command) error true
+          → at_order scene name (kind_of command) (RefusesOrder error)
+          ≡ at_leg scene (kind_of command) (leg_named scene.legs name) (RefusesOrder error)
+          → IsWorldStep scene (needs.Order name command) called old old (replies.Order (Err error)) scene.leases
       no_room error r falls =
           let there = there_refuses error true r in
           nothing_changed (RefusesOrder error) (falls ∙ rw (there.1, r.refuses refl, there.2) refl)
 
-      pub refusal_is : (error : OrderError) → peer.IsSeenRefusal old name (act_kind act) error
-          → IsWorldStep scene (needs.Order name act) called old old (replies.Order (Err error)) scene.leases
+      pub refusal_is : (error : OrderError) → peer.IsSeenRefusal old name (kind_of command) error
+          → IsWorldStep scene (needs.Order name command) called old old (replies.Order (Err error)) scene.leases
       refusal_is order_errors.StepsSpent r = nothing_changed (RefusesOrder order_errors.StepsSpent) refl
       refusal_is order_errors.Gone r =
           let none : leg_named scene.legs name ≡ None =
           none_named (leg_at scene.legs name.peer name.number) name (λ before e. r before (sym (sees name.number)
           ∙ ap (λ (peer : ℕ). option_map look_of (leg_at scene.legs peer name.number)) (sym is) ∙ e)) in
-          nothing_changed Goes (ap (λ (l : Option Leg). at_leg scene (act_kind act) l Goes) none)
+          nothing_changed Goes (ap (λ (l : Option Leg). at_leg scene (kind_of command) l Goes) none)
       refusal_is order_errors.WrongStage (true, r) = no_room order_errors.WrongStage r refl
       refusal_is order_errors.WrongStage (false, r) =
           let there = there_refuses order_errors.WrongStage false r in
-          nothing_changed Goes (ap (λ (l : Option Leg). at_leg scene (act_kind act) l Goes) there.1
-          ∙ ap (obeys scene (act_kind act) there.0) (no_stage (stage_after (act_kind act) there.0.seen.stage) there.2))
+          nothing_changed Goes (ap (λ (l : Option Leg). at_leg scene (kind_of command) l Goes) there.1
+          ∙ ap (obeys scene (kind_of command) there.0) (no_stage (stage_after (kind_of command) there.0.seen.stage) there.2))
       refusal_is error r = no_room error r refl
 
     -- ---- taking a leg out

@@ -16,7 +16,7 @@ pub use Rattle.call_book.specs.Book.{is_same, partner_of, released, reserve_answ
 pub use Rattle.call_book.specs.declared.errors.BridgeError.{BridgeError}
 pub use Rattle.call_book.specs.declared.errors.ReserveError.{ReserveError}
 pub use Rattle.call_book.specs.declared.leg_name.LegName.{LegName}
-pub use Rattle.call_control.specs.Act.{act_kind}
+pub use Rattle.call_signals.specs.Order.{kind_of, Kind}
 pub use Rattle.call_control.specs.DatagramsLeft.{OpensFew, brought_by, datagrams_left, is_first, need_puts, place_puts, rest_puts}
 pub use Rattle.call_control.specs.DatagramsLeft.{signals_put, step_puts, touched_puts}
 pub use Rattle.call_control.specs.Law.{AllAreLookedAfter, AllHavePartners, IsFresh, IsIdle, IsLookedAfter, IsOpened}
@@ -38,7 +38,7 @@ pub use Rattle.call_control.specs.Work.{after_told, at, ended, go_on, go_on_from
 pub use Rattle.call_control.specs.Work.{told_at}
 pub use Rattle.call_control.specs.World.{ADatagram, Caller, Event, Start, Starts, Steps, World, after_answer, begins, happens}
 pub use Rattle.call_control.specs.World.{makes, run, scene_of, starts, steps, work_of}
-pub use Rattle.call_control.specs.declared.act.Act.{Act}
+pub use Rattle.call_signals.specs.declared.order.Command.{Command}
 pub use Rattle.call_control.specs.declared.need.Need.{Need}
 pub use Rattle.call_control.specs.declared.place.Place.{Place}
 pub use Rattle.call_control.specs.declared.reply.Reply.{Reply}
@@ -46,7 +46,6 @@ pub use Rattle.call_signals.specs.declared.cause.Cause.{Cause}
 pub use Rattle.call_signals.specs.declared.cause.Cause.TheVariants.{NormalClearing}
 pub use Rattle.call_signals.specs.declared.format.Format.{Format}
 pub use Rattle.call_signals.specs.declared.openings.Opening.{Opening}
-pub use Rattle.call_signals.specs.declared.order.OrderKind.{OrderKind}
 pub use Rattle.call_signals.specs.declared.signal.MediaSpan.{MediaSpan}
 pub use Rattle.call_signals.specs.declared.signal.Signal.{Signal}
 pub use Rattle.call_signals.specs.declared.stage.Stage.{Stage}

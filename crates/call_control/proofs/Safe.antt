@@ -1,7 +1,7 @@
 -- The meaning of a caller's work to a name, as numbers, and what each step keeps of it.
 use Rattle.call_control.specs.declared.place.Place.TheVariants as places
 use Rattle.call_control.specs.declared.reply.Reply.TheVariants as replies
-use Rattle.call_signals.specs.declared.order.OrderKind.TheVariants as kinds
+use Rattle.call_signals.specs.declared.order.Command.TheVariants as commands
 use Rattle.call_signals.specs.declared.signal.Signal.TheVariants as signals
 use Rattle.call_control.proofs.Prelude.{◌≡◌, Some, None, Bool, true, false, refl, ℕ, zero, suc, ◌+◌, ◌≤◌, List, [], ◌∷◌, ap}
 use Rattle.call_control.proofs.Prelude.{arith, inl, inr, ◌⊎◌, Option, ◌&&◌, subst, is_some, ◌==◌, cond_both, cases_Bool}
@@ -9,7 +9,7 @@ use Rattle.call_control.proofs.Prelude.{nat_tests, AllByRecursion, Ok, is_same, 
 use Rattle.call_control.proofs.Prelude.{names_of, is_kept, is_heard, words, names_in, names_at, handed_up, Leg, Scene, leg_at}
 use Rattle.call_control.proofs.Prelude.{leg_named, replaced, without, brought, all_lapsed, carried, if_named, let_lapse}
 use Rattle.call_control.proofs.Prelude.{lapsed_at, Work, Rest, go_on, told_at, at, go_on_from, in_hand, Place, Reply, Cause}
-use Rattle.call_control.proofs.Prelude.{OrderKind, Signal, Stage, SeenFrame, frame_effect, stage_after, Lapse, is_same_itself}
+use Rattle.call_control.proofs.Prelude.{Kind, Signal, Stage, SeenFrame, frame_effect, stage_after, Lapse, is_same_itself}
 use Rattle.call_control.proofs.Prelude.{same_name, bit, one_per_number}
 use Rattle.call_control.proofs.Held.{IsHeld, some_bit, found_at}
 use Rattle.call_control.proofs.Onward.{onward_at}
@@ -54,7 +54,7 @@ place_past (places.Routing offered) x = bit (is_same offered x)
 place_past (places.Rejecting offered cause) x = bit (is_same offered x)
 place_past (places.ReserveOut offered peer format) x = bit (is_same offered x)
 place_past (places.Bridging offered target format) x = bit (is_same offered x)
-place_past (places.Finding name act) x = bit (is_same name x)
+place_past (places.Finding name command) x = bit (is_same name x)
 place_past place x = 0
 
 abbrev pub past : Work → LegName → ℕ
@@ -250,7 +250,7 @@ pub and_second : (a b : Bool) → (a && b) ≡ true → b ≡ true
 and_second a b both = grind arith
 
 -- an order turns no leg into a kept one
-pub ordered_kept : (kind : OrderKind) (leg : Leg) (after : Stage) → stage_after kind leg.seen.stage ≡ Some after
+pub ordered_kept : (kind : Kind) (leg : Leg) (after : Stage) → stage_after kind leg.seen.stage ≡ Some after
     → is_kept (carried kind leg after) ≡ true → is_kept leg ≡ true
 ordered_kept kind leg after ok kept = grind arith
 
@@ -276,7 +276,7 @@ brought_kept frame leg kept =
     ]
 
 -- a doomed leg isn't kept, nor is a closing one
-pub doomed_not_kept : (cause : Cause) (leg : Leg) (stage : Stage) → is_kept (carried (kinds.Doom cause) leg stage) ≡ true → ⊥
+pub doomed_not_kept : (cause : Cause) (leg : Leg) (stage : Stage) → is_kept (carried (commands.Doom cause) leg stage) ≡ true → ⊥
 doomed_not_kept cause leg stage kept = grind arith
 
 -- ---- fresh leases

@@ -1,13 +1,13 @@
 -- Steps that keep the book are safe, and orders.
 use Rattle.call_control.specs.declared.place.Place.TheVariants as places
 use Rattle.call_control.specs.declared.reply.Reply.TheVariants as replies
-use Rattle.call_signals.specs.declared.order.OrderKind.TheVariants as kinds
+use Rattle.call_signals.specs.declared.order.Command.TheVariants as commands
 use Rattle.peer_lock.specs.declared.errors.OrderError.TheVariants as order_errors
 use Rattle.call_control.proofs.Prelude.{◌≡◌, Some, None, true, false, refl, ℕ, ◌+◌, ◌≤◌, List, [], ap, arith, inl, inr, ◌⊎◌}
 use Rattle.call_control.proofs.Prelude.{Option, sym, ◌∙◌, ◌<◌, nat_tests, AllByRecursion, Ok, Err, Result, is_same, Book, LegName}
 use Rattle.call_control.proofs.Prelude.{names_of, is_kept, is_spent, Leg, Scene, Choice, RefusesOrder, leg_at, leg_named}
 use Rattle.call_control.proofs.Prelude.{replaced, Answer, answer, carried, at_leg, at_order, Work, Rest, go_on, told_at, at}
-use Rattle.call_control.proofs.Prelude.{in_hand, Place, Reply, Cause, OrderKind, Stage, stage_after, OrderError, bit}
+use Rattle.call_control.proofs.Prelude.{in_hand, Place, Reply, Cause, Kind, Stage, stage_after, OrderError, bit}
 use Rattle.call_control.proofs.Held.{scene, IsHeld, found_if}
 use Rattle.call_control.proofs.Safe.{care, past, fresh_at, go_on_care, brings_news, lets_go, told_care, all_map, all_replaced}
 use Rattle.call_control.proofs.Safe.{all_found, all_map_in, in_book, none_named, other_than, Covers, ordered_kept}
@@ -101,7 +101,7 @@ module _ (around : Surroundings) where
           )) b.covered
 
       -- the leg is carried to a stage
-      pub obeyed : (to : Work) (kind : OrderKind) (leg : Leg) (stage : Stage) → leg_named legs name ≡ Some leg
+      pub obeyed : (to : Work) (kind : Kind) (leg : Leg) (stage : Stage) → leg_named legs name ≡ Some leg
           → ((x : LegName) → is_same name x ≡ false → care before x ≤ care to x)
           → (Covers book (seen before) leg → Covers book (seen to) (carried kind leg stage))
           → Sees to (replaced legs (carried kind leg stage))
@@ -119,7 +119,7 @@ module _ (around : Surroundings) where
           b.covered
 
       -- an order that takes responsibility from nobody
-      pub order_safe : (kind : OrderKind) (choice : Choice)
+      pub order_safe : (kind : Kind) (choice : Choice)
           → ((r : Result (Unit {0}) OrderError) → lets_go place (replies.Order r) ≡ false)
           → SafeAnswer place rest (at_order s name kind choice)
       order_safe kind choice held =
@@ -134,23 +134,23 @@ module _ (around : Surroundings) where
   -- a leg that is rejected closes
   pub rejecting_safe : (offered : LegName) (cause : Cause) (rest : Rest) (choice : Choice)
       → Before (places.Rejecting offered cause) rest → SafeAnswer (places.Rejecting offered cause) rest
-      (at_order (scene book legs []) offered (kinds.Reject cause) choice)
+      (at_order (scene book legs []) offered (commands.Reject cause) choice)
   rejecting_safe offered cause rest choice b = order_ways (SafeAnswer (places.Rejecting offered cause) rest) (scene book legs [])
-      offered (kinds.Reject cause) choice (λ error. quiet b (replies.Order (Err error)) refl refl)
+      offered (commands.Reject cause) choice (λ error. quiet b (replies.Order (Err error)) refl refl)
       (λ leg stage found is. unchanged b _ (go_on rest)
       (moves (places.Rejecting offered cause) (replies.Order (Ok tt)) rest refl)
-      (obeyed b offered (go_on rest) (kinds.Reject cause) leg stage found
+      (obeyed b offered (go_on rest) (commands.Reject cause) leg stage found
       (λ x other. let none : bit (is_same offered x) ≡ 0 = ap bit other in omega (arith, go_on_care rest x))
       (λ c kept. absurd (closes leg stage is kept))))
     where
-      closes : (leg : Leg) (after : Stage) → stage_after (kinds.Reject cause) leg.seen.stage ≡ Some after
-          → is_kept (carried (kinds.Reject cause) leg after) ≡ true → ⊥
+      closes : (leg : Leg) (after : Stage) → stage_after (commands.Reject cause) leg.seen.stage ≡ Some after
+          → is_kept (carried (commands.Reject cause) leg after) ≡ true → ⊥
       closes leg after ok kept = grind arith
 
   -- Doom: the leg is doomed, closed or gone
   pub dooming_safe : (name : LegName) (cause : Cause) (rest : Rest) (choice : Choice)
       → Before (places.Dooming name cause) rest → IsSeenTo others_care choice → SafeAnswer (places.Dooming name cause) rest
-      (at_order (scene book legs []) name (kinds.Doom cause) choice)
+      (at_order (scene book legs []) name (commands.Doom cause) choice)
   dooming_safe name cause rest choice b seen_to = go choice seen_to
     where
       goes_on : (new : List Leg) → Sees (go_on rest) new → Safe (places.Dooming name cause) rest (scene book new []) (go_on rest)
@@ -160,15 +160,15 @@ module _ (around : Surroundings) where
       apart_care x other = let none : bit (is_same name x) ≡ 0 = ap bit other in omega (arith, go_on_care rest x)
 
       doom : (o : Option Leg) (choice : Choice) → leg_named legs name ≡ o → SafeAnswer (places.Dooming name cause) rest
-          (at_leg (scene book legs []) (kinds.Doom cause) o choice)
+          (at_leg (scene book legs []) (commands.Doom cause) o choice)
       doom None choice found = goes_on legs (none_apart b name (go_on rest) apart_care found)
-      doom (Some leg) (RefusesOrder error) found = goes_on _ (obeyed b name (go_on rest) (kinds.Doom cause) leg leg.seen.stage
+      doom (Some leg) (RefusesOrder error) found = goes_on _ (obeyed b name (go_on rest) (commands.Doom cause) leg leg.seen.stage
           found apart_care (λ c kept. absurd (doomed_not_kept cause leg leg.seen.stage kept)))
-      doom (Some leg) choice found = goes_on _ (obeyed b name (go_on rest) (kinds.Doom cause) leg leg.seen.stage found apart_care
-          (λ c kept. absurd (doomed_not_kept cause leg leg.seen.stage kept)))
+      doom (Some leg) choice found = goes_on _ (obeyed b name (go_on rest) (commands.Doom cause) leg leg.seen.stage found
+          apart_care (λ c kept. absurd (doomed_not_kept cause leg leg.seen.stage kept)))
 
       go : (choice : Choice) → IsSeenTo others_care choice → SafeAnswer (places.Dooming name cause) rest
-          (at_order (scene book legs []) name (kinds.Doom cause) choice)
+          (at_order (scene book legs []) name (commands.Doom cause) choice)
       go (RefusesOrder order_errors.StepsSpent) (inl paid) = absurd (cc)
       go (RefusesOrder order_errors.StepsSpent) (inr seen_to) = goes_on legs
           (all_map (Covers book (seen (at (places.Dooming name cause) rest))) (Covers book (seen (go_on rest))) legs

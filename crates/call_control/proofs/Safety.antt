@@ -2,10 +2,10 @@
 use Rattle.call_control.specs.declared.need.Route.TheVariants as routes
 use Rattle.call_control.specs.declared.place.Place.TheVariants as places
 use Rattle.call_control.specs.declared.reply.Reply.TheVariants as replies
-use Rattle.call_signals.specs.declared.order.OrderKind.TheVariants as kinds
+use Rattle.call_signals.specs.declared.order.Command.TheVariants as commands
 use Rattle.call_control.proofs.Prelude.{◌≡◌, Some, None, true, false, refl, ℕ, ◌+◌, ◌≤◌, List, [], ◌∷◌, slice_get, slice_set, ap}
 use Rattle.call_control.proofs.Prelude.{arith, inl, inr, ◌⊎◌, Option, sym, subst, ◌∙◌, is_some, ◌<◌, cases_Bool, AllByRecursion}
-use Rattle.call_control.proofs.Prelude.{Ok, Err, is_same, has_name, partner_of, LegName, act_kind, times, names_of, is_kept}
+use Rattle.call_control.proofs.Prelude.{Ok, Err, is_same, has_name, partner_of, LegName, kind_of, times, names_of, is_kept}
 use Rattle.call_control.proofs.Prelude.{IsIdle, AllHavePartners, IsOpened, IsFresh, is_spent, IsWithinSteps, names_in}
 use Rattle.call_control.proofs.Prelude.{names_in_all, IsLookedAfter, AllAreLookedAfter, Scene, Choice, RefusesRejecting, LeadsTo}
 use Rattle.call_control.proofs.Prelude.{answer, answered, is_call, Work, Rest, next_at, next_of, go_on, at, in_hand, Caller}
@@ -61,24 +61,24 @@ module _ (around : Surroundings) where
   place_safe (places.Rejecting offered cause) rest choice _ b = rejecting_safe around offered cause rest choice b
   place_safe (places.ReserveOut offered peer format) rest choice _ b = reserves_safe around peer b refl (λ name. refl) (λ r. refl)
   place_safe (places.Bridging offered target format) rest choice _ b = bridging_safe around offered target format rest b
-  place_safe (places.Accepting offered target format) rest choice _ b = order_safe around b offered (kinds.Accept format)
+  place_safe (places.Accepting offered target format) rest choice _ b = order_safe around b offered (commands.Accept format)
       choice (λ r. refl)
   place_safe (places.OpenOut offered target) rest choice _ b = opening_out_safe around offered target rest choice b
   place_safe (places.Checking target) rest choice _ b = checked target rest b (partner_of book target) refl
   place_safe (places.Undoing offered target) rest choice _ b = undoing_safe around offered target rest b
   place_safe (places.Dooming name cause) rest choice seen_to b = dooming_safe around name cause rest choice b seen_to
-  place_safe (places.Finding name act) rest choice _ b = quiet around b (replies.Partner _) refl refl
-  place_safe (places.Passing partner act) rest choice _ b = order_safe around b partner (act_kind act) choice (λ r. refl)
+  place_safe (places.Finding name command) rest choice _ b = quiet around b (replies.Partner _) refl refl
+  place_safe (places.Passing partner command) rest choice _ b = order_safe around b partner (kind_of command) choice (λ r. refl)
   place_safe (places.Looking name) rest choice _ b = quiet around b (replies.Look _) refl refl
   place_safe (places.LookingAt peer number) rest choice _ b = quiet around b (replies.Look _) refl refl
   place_safe (places.FindingPartner name cause) rest choice _ b = quiet around b (replies.Partner _) refl refl
-  place_safe (places.HangingUp name partner cause) rest choice _ b = order_safe around b partner (kinds.Hangup cause) choice
+  place_safe (places.HangingUp name partner cause) rest choice _ b = order_safe around b partner (commands.Hangup cause) choice
       (λ r. refl)
-  place_safe (places.Paying name cause) rest choice _ b = order_safe around b name kinds.Paid choice (λ r. refl)
+  place_safe (places.Paying name cause) rest choice _ b = order_safe around b name commands.Paid choice (λ r. refl)
   place_safe (places.Retiring name cause) rest choice _ b = retiring_safe around name cause rest choice b
   place_safe (places.Freeing name cause) rest choice _ b = freeing_safe around name cause rest b
   place_safe (places.Tick peer) rest choice _ b = tick_safe around peer rest choice b
-  place_safe (places.HangUp name) rest choice _ b = order_safe around b name (kinds.Hangup NormalClearing) choice (λ r. refl)
+  place_safe (places.HangUp name) rest choice _ b = order_safe around b name (commands.Hangup NormalClearing) choice (λ r. refl)
   place_safe (places.ReserveCall peer) rest choice _ b = reserves_safe around peer b refl (λ name. refl) (λ r. refl)
   place_safe (places.OpenCall name) rest choice _ b = open_call_safe around name rest choice b
   place_safe places.End rest choice _ b = tt

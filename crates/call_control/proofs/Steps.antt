@@ -10,13 +10,13 @@ use Rattle.peer_lock.specs.declared.errors.OpenError.{OpenError}
 use Rattle.peer_lock.specs.declared.errors.PeerError.{PeerError}
 use Rattle.call_control.proofs.Prelude.{◌≡◌, Some, None, Bool, true, false, refl, ℕ, ◌≤◌, List, [], ◌∷◌, ap, arith, inl, inr}
 use Rattle.call_control.proofs.Prelude.{Option, sym, subst, cond_both, cases_Bool, Ok, Err, Result, is_same, has_name}
-use Rattle.call_control.proofs.Prelude.{reserve_answer, bridge_answer, IsBook, BridgeError, ReserveError, LegName, act_kind}
+use Rattle.call_control.proofs.Prelude.{reserve_answer, bridge_answer, IsBook, BridgeError, ReserveError, LegName, kind_of}
 use Rattle.call_control.proofs.Prelude.{times, names_of, Leg, Scene, Choice, RefusesDatagram, RefusesOpening, RefusesOrder}
 use Rattle.call_control.proofs.Prelude.{RefusesTick, KeepsLeg, Brings, HasMedia, Lapses, Opens, leg_at, leg_named, Answer, answer}
 use Rattle.call_control.proofs.Prelude.{brings, all_media, at_datagram, all_lapsed, at_tick, dropped, opened, at_open_in}
 use Rattle.call_control.proofs.Prelude.{opens_out, at_open_out, refused, obeys, at_leg, at_order, is_done, retires, keeps}
 use Rattle.call_control.proofs.Prelude.{at_retire, reserves, bridges, releases, at_release, answered, heard, Rest, next_at}
-use Rattle.call_control.proofs.Prelude.{told_at, in_hand, Need, Place, Reply, Opening, OrderKind, MediaSpan, Stage, SeenFrame}
+use Rattle.call_control.proofs.Prelude.{told_at, in_hand, Need, Place, Reply, Opening, Kind, MediaSpan, Stage, SeenFrame}
 use Rattle.call_control.proofs.Prelude.{opening_effect, stage_after, Lapse, OrderError, IsReserved, reserved, IsBridged}
 use Rattle.call_control.proofs.Prelude.{bridged_by, release_keeps, lost, is_same_itself, same_name, bit, has_name_is}
 use Rattle.call_control.proofs.Held.{IsHeld, some_bit, bit_most, names_replaced, names_lapsed, found_named, leased_own}
@@ -26,7 +26,7 @@ use Rattle.call_control.proofs.Onward.{onward_hand}
 -- ---- the ways in which a step can end: what holds for each of them holds for the step
 
 module _ (P : Answer → Type 0) (s : Scene) where
-  pub order_ways : (name : LegName) (kind : OrderKind) (choice : Choice) → ((error : OrderError) → P (refused s error))
+  pub order_ways : (name : LegName) (kind : Kind) (choice : Choice) → ((error : OrderError) → P (refused s error))
       → ((leg : Leg) (stage : Stage) → leg_named s.legs name ≡ Some leg → stage_after kind leg.seen.stage ≡ Some stage
       → P (obeys s kind leg (Some stage))) → P (at_order s name kind choice)
   order_ways name kind choice refused_so obeyed = go choice
@@ -135,7 +135,7 @@ abbrev pub moves_legs : Need → Bool
 moves_legs (needs.Datagram peer) = true
 moves_legs (needs.OpenIn name) = true
 moves_legs (needs.OpenOut name) = true
-moves_legs (needs.Order name act) = true
+moves_legs (needs.Order name command) = true
 moves_legs (needs.Tick peer) = true
 moves_legs (needs.Retire name) = true
 moves_legs need = false
@@ -161,7 +161,8 @@ module _ (s : Scene) where
   leases_after (needs.OpenOut name) called choice own = open_out_ways
       (λ a. a.scene.leases ≡ hand_after (Some (needs.OpenOut name)) a.reply s.leases) s name called choice (λ error. refl)
       (rw own (dropped_own name))
-  leases_after (needs.Order name act) called choice own = order_ways (λ a. a.scene.leases ≡ s.leases) s name (act_kind act) choice
+  leases_after (needs.Order name command) called choice own =
+      order_ways (λ a. a.scene.leases ≡ s.leases) s name (kind_of command) choice
       (λ error. refl) (λ leg stage found is. refl)
   leases_after (needs.Retire name) called choice own = retire_ways
       (λ a. a.scene.leases ≡ hand_after (Some (needs.Retire name)) a.reply s.leases) s name choice refl

@@ -1,12 +1,13 @@
 -- In every world that the steps of calls lead to, no order of a continuing call meets a leg that is only offered.
-use Rattle.call_control.specs.declared.act.Act.TheVariants as acts
+use Rattle.call_signals.specs.declared.order.Command.TheVariants as commands
 use Rattle.call_control.specs.declared.need.Need.TheVariants as needs
 use Rattle.call_control.specs.declared.place.Place.TheVariants as places
 use Rattle.call_control.proofs.Prelude.{◌≡◌, Some, None, true, false, refl, ℕ, ◌≤◌, List, slice_get, ap, arith, inl, inr, ◌⊎◌}
 use Rattle.call_control.proofs.Prelude.{sym, subst, ◌∙◌, true≢false, is_same, partner_of, LegName, times, IsOpened, IsFresh}
 use Rattle.call_control.proofs.Prelude.{is_talk, NoneMeetsOffered, Scene, Choice, leg_at, answered, is_call, Work, Rest, next_at}
 use Rattle.call_control.proofs.Prelude.{next_of, told_at, Caller, World, Event, Start, ADatagram, work_of, scene_of, begins, run}
-use Rattle.call_control.proofs.Prelude.{after_answer, Act, Need, Place, NormalClearing, is_same_itself, no_partner, partner_at}
+use Rattle.call_control.proofs.Prelude.{after_answer, Command, Need, Place, NormalClearing, is_same_itself, no_partner}
+use Rattle.call_control.proofs.Prelude.{partner_at, MediaSpan}
 use Rattle.call_control.proofs.Held.{scene, found_if}
 use Rattle.call_control.proofs.Names.{beside, idle_hand, start_hand}
 use Rattle.call_control.proofs.Runs.{total, others, total_split, total_set, hand_weight, at_set_apart, total_le, all_at, moved_to}
@@ -152,25 +153,28 @@ talks_in world o events = any_run IsTalkSafe (record {
 }) events world (opened_talks world o)
 
 -- ---- consequences
-not_talk : {A : Type 0} (own act : Act) → own ≡ act → is_talk own ≡ false → is_talk act ≡ true → A
-not_talk own act same apart talk = absurd (true≢false (sym talk ∙ ap is_talk (sym same) ∙ apart))
+not_talk : {A : Type 0} (own command : Command MediaSpan) → own ≡ command → is_talk own ≡ false → is_talk command ≡ true → A
+not_talk own command same apart talk = absurd (true≢false (sym talk ∙ ap is_talk (sym same) ∙ apart))
 
 module _ (world : World) where
   -- only a partner gets such an order
-  settled_for : (place : Place) (name : LegName) (act : Act) → next_at place ≡ Some (needs.Order name act) → is_talk act ≡ true
+  settled_for : (place : Place) (name : LegName) (command : Command MediaSpan) → next_at place ≡ Some (needs.Order name command)
+      → is_talk command ≡ true
       → Asks (SettledIn world) place → SettledIn world name
-  settled_for (places.Passing partner own) name act is talk h = let e : partner ≡ name = cc in subst (SettledIn world) e h
-  settled_for (places.Rejecting offered cause) name act is talk h = not_talk (acts.Reject cause) act (cc) refl talk
-  settled_for (places.Accepting offered target format) name act is talk h = not_talk (acts.Accept format) act (cc) refl talk
-  settled_for (places.Dooming own cause) name act is talk h = not_talk (acts.Doom cause) act (cc) refl talk
-  settled_for (places.HangingUp own partner cause) name act is talk h = not_talk (acts.Hangup cause) act (cc) refl talk
-  settled_for (places.Paying own cause) name act is talk h = not_talk acts.Paid act (cc) refl talk
-  settled_for (places.HangUp own) name act is talk h = not_talk (acts.Hangup NormalClearing) act (cc) refl talk
-  settled_for place name act is talk h = absurd (cc)
+  settled_for (places.Passing partner own) name command is talk h = let e : partner ≡ name = cc in subst (SettledIn world) e h
+  settled_for (places.Rejecting offered cause) name command is talk h = not_talk (commands.Reject cause) command (cc) refl talk
+  settled_for (places.Accepting offered target format) name command is talk h =
+      not_talk (commands.Accept format) command (cc) refl talk
+  settled_for (places.Dooming own cause) name command is talk h = not_talk (commands.Doom cause) command (cc) refl talk
+  settled_for (places.HangingUp own partner cause) name command is talk h =
+      not_talk (commands.Hangup cause) command (cc) refl talk
+  settled_for (places.Paying own cause) name command is talk h = not_talk commands.Paid command (cc) refl talk
+  settled_for (places.HangUp own) name command is talk h = not_talk (commands.Hangup NormalClearing) command (cc) refl talk
+  settled_for place name command is talk h = absurd (cc)
 
   pub none_meets_offered : IsTalkSafe world → NoneMeetsOffered world
-  none_meets_offered h who caller name act leg is next talk found offered =
-      let settled : SettledIn world name = settled_for caller.work.place name act next talk (h.asks who caller is) in
+  none_meets_offered h who caller name command leg is next talk found offered =
+      let settled : SettledIn world name = settled_for caller.work.place name command next talk (h.asks who caller is) in
       let parts = found_if name (leg_at world.legs name.peer name.number) leg found in
       let not_pending : is_pending leg.seen.stage ≡ false = all_found (NotPending name) world.legs name.peer name.number leg
       settled.not_pending parts.0

@@ -5,9 +5,9 @@ use Rattle.call_signals.specs.declared.stage.Stage.TheVariants as stages
 use Rattle.call_control.proofs.Prelude.{◌≡◌, Some, Bool, true, false, refl, ℕ, ◌+◌, ◌≤◌, List, [], ◌∷◌, ap, arith, inl, inr, ◌⊎◌}
 use Rattle.call_control.proofs.Prelude.{Option, ◌&&◌, sym, subst, ◌∙◌, ◌<◌, cond_both, cases_Bool, true≢false, AllByRecursion, Ok}
 use Rattle.call_control.proofs.Prelude.{Err, Result, is_same, Book, has_name, reserve_answer, partner_of, IsBook, after_reserve}
-use Rattle.call_control.proofs.Prelude.{ReserveError, LegName, act_kind, times, Leg, Scene, Choice, leg_at, brought, is_leased}
+use Rattle.call_control.proofs.Prelude.{ReserveError, LegName, kind_of, times, Leg, Scene, Choice, leg_at, brought, is_leased}
 use Rattle.call_control.proofs.Prelude.{carried, reserves, releases, is_stale, answered, let_lapse, Rest, told_at, go_on_from}
-use Rattle.call_control.proofs.Prelude.{in_hand, after_accept, Need, Place, Reply, Format, OrderKind, Signal, Stage, SeenFrame}
+use Rattle.call_control.proofs.Prelude.{in_hand, after_accept, Need, Place, Reply, Format, Kind, Signal, Stage, SeenFrame}
 use Rattle.call_control.proofs.Prelude.{frame_effect, stage_after, Lapse, IsReserved, reserved, same_name, bit, has_name_is}
 use Rattle.call_control.proofs.Prelude.{partner_has, released_before, reserved_none, reserved_before}
 use Rattle.call_control.proofs.Held.{some_bit, found_if}
@@ -31,7 +31,7 @@ NonePending p legs = AllByRecursion (NotPending p) legs
 
 -- ---- stages
 
-carried_not_pending : (kind : OrderKind) (leg : Leg) (after : Stage) → stage_after kind leg.seen.stage ≡ Some after
+carried_not_pending : (kind : Kind) (leg : Leg) (after : Stage) → stage_after kind leg.seen.stage ≡ Some after
     → is_pending leg.seen.stage ≡ false → is_pending (carried kind leg after).seen.stage ≡ false
 carried_not_pending kind leg after ok not_pending = grind arith
 
@@ -65,11 +65,11 @@ module _ (p : LegName) (s : Scene) where
       (λ error. h) (λ opening. ((λ same. absurd (true≢false (sym same ∙ apart))), h))
   need_not_pending (needs.OpenOut name) called choice apart h = open_out_ways (λ a. NonePending p a.scene.legs) s name called
       choice (λ error. h) ((λ same. refl), h)
-  need_not_pending (needs.Order name act) called choice apart h = order_ways (λ a. NonePending p a.scene.legs) s name
-      (act_kind act) choice (λ error. h)
-      (λ leg stage found ok. all_turned (NotPending p) s.legs name.peer name.number leg (carried (act_kind act) leg stage)
+  need_not_pending (needs.Order name command) called choice apart h = order_ways (λ a. NonePending p a.scene.legs) s name
+      (kind_of command) choice (λ error. h)
+      (λ leg stage found ok. all_turned (NotPending p) s.legs name.peer name.number leg (carried (kind_of command) leg stage)
       (found_if name (leg_at s.legs name.peer name.number) leg found).0
-      (λ own same. carried_not_pending (act_kind act) leg stage ok (own same)) h)
+      (λ own same. carried_not_pending (kind_of command) leg stage ok (own same)) h)
   need_not_pending (needs.Tick peer) called choice apart h = tick_ways (λ a. NonePending p a.scene.legs) s peer choice h h
       (λ lapses quiet. all_at_lapses (NotPending p) (λ lapse leg own same. lapsed_not_pending lapse leg
       (own (ap (λ n. is_same n p) (sym (lapsed_name lapse leg)) ∙ same))) peer lapses s.legs h)
@@ -121,7 +121,7 @@ opening_fresh place x = grind arith
 abbrev pub is_plain : Place → Bool
 is_plain (places.OpenIn name) = false
 is_plain (places.OpenOut offered target) = false
-is_plain (places.Passing partner act) = false
+is_plain (places.Passing partner command) = false
 is_plain place = true
 
 -- ---- the place after each answer
@@ -134,7 +134,7 @@ onward_plain = onward_at is_plain (λ n. refl) (λ n a. refl) (λ n. refl) (λ p
 abbrev pub leads_on : Place → Bool
 leads_on (places.ReserveIn peer) = false
 leads_on (places.Accepting offered target format) = false
-leads_on (places.Finding name act) = false
+leads_on (places.Finding name command) = false
 leads_on place = true
 
 pub leads_to_plain : (place : Place) (reply : Reply) (rest : Rest) → leads_on place ≡ true
@@ -171,17 +171,17 @@ resettled new s none = record { known = s.known; not_pending = s.not_pending; un
 
 -- the leg that gets an order of a continuing call is settled, and so is the offered leg whose far leg is opened
 abbrev pub Asks : (LegName → Type 0) → Place → Type 0
-Asks Settled (places.Passing partner act) = Settled partner
+Asks Settled (places.Passing partner command) = Settled partner
 Asks Settled (places.OpenOut offered target) = Settled offered
 Asks Settled place = Unit {0}
 
 pub asks_map : (P Q : LegName → Type 0) (place : Place) → ((p : LegName) → P p → Q p) → Asks P place → Asks Q place
-asks_map P Q (places.Passing partner act) f h = f partner h
+asks_map P Q (places.Passing partner command) f h = f partner h
 asks_map P Q (places.OpenOut offered target) f h = f offered h
 asks_map P Q place f h = tt
 
 pub asks_plain : (P : LegName → Type 0) (place : Place) → is_plain place ≡ true → Asks P place
-asks_plain P (places.Passing partner act) plain = absurd (cc)
+asks_plain P (places.Passing partner command) plain = absurd (cc)
 asks_plain P (places.OpenOut offered target) plain = absurd (cc)
 asks_plain P place plain = tt
 

@@ -1,16 +1,16 @@
 -- After each step no order of a continuing call meets a leg that is only offered.
 use Rattle.call_book.specs.declared.errors.ReserveError.TheVariants as reserve_errors
-use Rattle.call_control.specs.declared.act.Act.TheVariants as acts
+use Rattle.call_signals.specs.declared.order.Command.TheVariants as commands
 use Rattle.call_control.specs.declared.need.Need.TheVariants as needs
 use Rattle.call_control.specs.declared.place.Place.TheVariants as places
 use Rattle.call_control.specs.declared.reply.Reply.TheVariants as replies
-use Rattle.call_signals.specs.declared.order.OrderKind.TheVariants as kinds
 use Rattle.call_control.proofs.Prelude.{◌≡◌, Some, None, true, false, refl, ℕ, ◌+◌, ◌≤◌, List, [], ◌∷◌, ap, arith, inl, inr, ◌⊎◌}
 use Rattle.call_control.proofs.Prelude.{Option, sym, subst, ◌∙◌, ◌≢◌, cases_Bool, true≢false, AllByRecursion, Ok, Err, Result}
 use Rattle.call_control.proofs.Prelude.{is_same, Book, has_name, bridge_answer, partner_of, bridged, released, BridgeError}
 use Rattle.call_control.proofs.Prelude.{LegName, times, names_of, Leg, Scene, Choice, leg_named, replaced, Answer, carried}
 use Rattle.call_control.proofs.Prelude.{bridges, releases, at_release, answered, is_call, Rest, next_at, go_on, told_at, in_hand}
-use Rattle.call_control.proofs.Prelude.{after_reserve_in, after_find, Act, Need, Place, Reply, Format, Stage, stage_after}
+use Rattle.call_control.proofs.Prelude.{after_reserve_in, after_find, Command, Need, Place, Reply, Format, Stage, stage_after}
+use Rattle.call_control.proofs.Prelude.{MediaSpan}
 use Rattle.call_control.proofs.Prelude.{IsBridged, bridged_by, is_same_itself, same_name, bit, has_name_is, one_per_number}
 use Rattle.call_control.proofs.Prelude.{has_name_from, partner_has, bridged_first, bridged_before, released_gone}
 use Rattle.call_control.proofs.Held.{scene, IsHeld, some_bit, bit_most, found_named}
@@ -101,11 +101,12 @@ module _ (around : Surroundings) (others_opening : LegName → ℕ) (few_opening
 
     -- ---- the leg that gets an order of a continuing call, and the leg whose far leg is opened
 
-    found_asks : (name : LegName) (act : Act) (rest : Rest) → Talks (places.Finding name act) rest → (o : Option LegName)
-        → partner_of book name ≡ o → Asks (SettledAt others_opening book legs (after_find (replies.Partner o) act rest).place)
-        (after_find (replies.Partner o) act rest).place
-    found_asks name act rest b None is = asks_plain _ (go_on rest).place (onward_plain rest.onward rest.touched rest.looks)
-    found_asks name act rest b (Some partner) is = elim (b.partners name partner is) [
+    found_asks : (name : LegName) (command : Command MediaSpan) (rest : Rest) → Talks (places.Finding name command) rest
+        → (o : Option LegName)
+        → partner_of book name ≡ o → Asks (SettledAt others_opening book legs (after_find (replies.Partner o) command rest).place)
+        (after_find (replies.Partner o) command rest).place
+    found_asks name command rest b None is = asks_plain _ (go_on rest).place (onward_plain rest.onward rest.touched rest.looks)
+    found_asks name command rest b (Some partner) is = elim (b.partners name partner is) [
       | inl fresh ↦ absurd (omega (arith, b.safe.apart name (omega (arith, ap bit (is_same_itself name)))))
       | inr settled ↦ settled
     ]
@@ -116,9 +117,10 @@ module _ (around : Surroundings) (others_opening : LegName → ℕ) (few_opening
 
     -- the offered leg once it is accepted
     accepted : (offered target : LegName) (format : Format) (rest : Rest) → Talks (places.Accepting offered target format) rest
-        → (leg : Leg) (stage : Stage) → leg_named legs offered ≡ Some leg → stage_after (kinds.Accept format) leg.seen.stage
+        → (leg : Leg) (stage : Stage) → leg_named legs offered ≡ Some leg → stage_after (commands.Accept format) leg.seen.stage
         ≡ Some stage
-        → SettledAt others_opening book (replaced legs (carried (kinds.Accept format) leg stage)) (places.OpenOut offered target)
+        → SettledAt others_opening book (replaced legs (carried (commands.Accept format) leg stage))
+        (places.OpenOut offered target)
         offered
     accepted offered target format rest b leg stage found ok =
         let there = found_named legs offered leg found in
@@ -126,7 +128,7 @@ module _ (around : Surroundings) (others_opening : LegName → ℕ) (few_opening
         (omega (arith, b.safe.held.once offered, there.1)) in
         record {
           known = (b.safe.held.sound.placed offered.number offered (has_name_is book offered has)).2;
-          not_pending = all_replaced (λ other. Unit {0}) (NotPending offered) legs (carried (kinds.Accept format) leg stage)
+          not_pending = all_replaced (λ other. Unit {0}) (NotPending offered) legs (carried (commands.Accept format) leg stage)
               (λ same. linked leg.seen.stage stage ok)
               (λ other differs _. λ same. absurd (true≢false (sym same ∙ ap (is_same other.name) (sym there.0) ∙ differs)))
               (any legs);
@@ -139,7 +141,7 @@ module _ (around : Surroundings) (others_opening : LegName → ℕ) (few_opening
           );
         }
       where
-        linked : (before after : Stage) → stage_after (kinds.Accept format) before ≡ Some after → is_pending after ≡ false
+        linked : (before after : Stage) → stage_after (commands.Accept format) before ≡ Some after → is_pending after ≡ false
         linked before after ok = grind arith
 
     reserved_asks : (P : LegName → Type 0) (reply : Reply) (peer : ℕ) (rest : Rest)
@@ -231,17 +233,17 @@ module _ (around : Surroundings) (others_opening : LegName → ℕ) (few_opening
         → SafeIf around place rest choice (next_at place) → TalksIf place rest choice (next_at place)
     place_talks (places.ReserveIn peer) rest choice b safe = step_by b _ choice refl safe (reserved_asks _ _ peer rest)
         (no_lease b _ choice refl safe refl refl)
-    place_talks (places.Finding name act) rest choice b safe = step_by b _ choice refl safe
-        (found_asks name act rest b (partner_of book name) refl) (no_lease b _ choice refl safe refl refl)
+    place_talks (places.Finding name command) rest choice b safe = step_by b _ choice refl safe
+        (found_asks name command rest b (partner_of book name) refl) (no_lease b _ choice refl safe refl refl)
     place_talks (places.Accepting offered target format) rest choice b safe =
         let place : Place = places.Accepting offered target format in
         step_by b _ choice refl safe
         (order_ways (λ a. Asks (SettledAt others_opening a.scene.book a.scene.legs (told_at place a.reply rest).place)
-        (told_at place a.reply rest).place) (scene book legs (target ∷ [])) offered (kinds.Accept format) choice (λ error. tt)
+        (told_at place a.reply rest).place) (scene book legs (target ∷ [])) offered (commands.Accept format) choice (λ error. tt)
         (accepted offered target format rest b))
         (partners_by b _ choice refl safe refl (λ x p own lone has. inl (omega (
           arith,
-          accept_fresh (made place (needs.Order offered (acts.Accept format)) choice).reply offered target format rest x own,
+          accept_fresh (made place (needs.Order offered (commands.Accept format)) choice).reply offered target format rest x own,
         ))))
     place_talks (places.Bridging offered target format) rest choice b safe = step_by b _ choice refl safe
         (plain_asks b _ choice refl safe refl)

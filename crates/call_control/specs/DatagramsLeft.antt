@@ -7,9 +7,10 @@ use Rattle.call_signals.specs.declared.signal.Signal.TheVariants as signals
 use Rattle.peer_lock.specs.Loads.{order_load}
 use Rattle.peer_lock.specs.Peer.{PeerStep}
 use Rattle.peer_lock.specs.declared.errors.PeerError.TheVariants.{NeedsNumber}
-use Rattle.call_control.specs.Act.{act_kind}
+use Rattle.call_signals.specs.Order.{kind_of}
 use Rattle.call_control.specs.Work.{Rest, Work}
-use Rattle.call_control.specs.declared.act.Act.{Act}
+use Rattle.call_signals.specs.declared.order.Command.{Command}
+use Rattle.call_signals.specs.declared.signal.MediaSpan.{MediaSpan}
 use Rattle.call_control.specs.declared.need.Need.{Need}
 use Rattle.call_control.specs.declared.need.Need.TheVariants as needs
 use Rattle.call_control.specs.declared.place.Place.{Place}
@@ -19,15 +20,15 @@ use Rattle.call_control.specs.declared.reply.Reply.{Reply}
 use Rattle.call_control.specs.declared.reply.Reply.TheVariants as replies
 
 -- an order puts one, except Doom and Paid
-abbrev pub act_puts : Act → ℕ
-act_puts act = (order_load (act_kind act) 0).datagrams
+abbrev pub command_puts : Command MediaSpan → ℕ
+command_puts command = (order_load (kind_of command) 0).datagrams
 
 -- The number that the next step puts. A peer's answer to a datagram, and its frames at a tick, aren't counted here.
 abbrev pub need_puts : Option Need → ℕ
 need_puts (Some (needs.OpenIn name)) = 1
 need_puts (Some (needs.RejectNew peer)) = 1
 need_puts (Some (needs.OpenOut name)) = 1
-need_puts (Some (needs.Order name act)) = act_puts act
+need_puts (Some (needs.Order name command)) = command_puts command
 need_puts need = 0
 
 -- ---- the remaining number
@@ -58,8 +59,8 @@ place_puts (places.ReserveOut offered peer format) = 2
 place_puts (places.Bridging offered target format) = 2
 place_puts (places.Accepting offered target format) = 2
 place_puts (places.OpenOut offered target) = 1
-place_puts (places.Finding name act) = act_puts act
-place_puts (places.Passing partner act) = act_puts act
+place_puts (places.Finding name command) = command_puts command
+place_puts (places.Passing partner command) = command_puts command
 place_puts (places.Looking name) = 1
 place_puts (places.LookingAt peer number) = 1
 place_puts (places.FindingPartner name cause) = 1

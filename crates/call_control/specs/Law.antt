@@ -17,8 +17,9 @@ use Rattle.call_control.specs.Scene.{is_leased, leg_at, leg_named, without}
 use Rattle.call_control.specs.SeenReply.{seen_reply}
 use Rattle.call_control.specs.Work.{Work, next_of, after_told, ended}
 use Rattle.call_control.specs.World.{World, Caller, Event, Starts, Steps, run}
-use Rattle.call_control.specs.declared.act.Act.{Act}
-use Rattle.call_control.specs.declared.act.Act.TheVariants as acts
+use Rattle.call_signals.specs.declared.order.Command.{Command}
+use Rattle.call_signals.specs.declared.signal.MediaSpan.{MediaSpan}
+use Rattle.call_signals.specs.declared.order.Command.TheVariants as commands
 use Rattle.call_control.specs.declared.need.Need.TheVariants as needs
 use Rattle.call_control.specs.declared.place.Place.{Place}
 use Rattle.call_control.specs.declared.place.Place.TheVariants as places
@@ -135,8 +136,8 @@ names_at (places.OpenOut offered target) = offered ∷ target ∷ []
 names_at (places.Checking target) = target ∷ []
 names_at (places.Undoing offered target) = offered ∷ target ∷ []
 names_at (places.Dooming name cause) = name ∷ []
-names_at (places.Finding name act) = name ∷ []
-names_at (places.Passing partner act) = partner ∷ []
+names_at (places.Finding name command) = name ∷ []
+names_at (places.Passing partner command) = partner ∷ []
 names_at (places.Looking name) = name ∷ []
 names_at (places.FindingPartner name cause) = name ∷ []
 names_at (places.HangingUp name partner cause) = name ∷ partner ∷ []
@@ -180,18 +181,18 @@ abbrev pub AllAreLookedAfter : World → Type 0
 AllAreLookedAfter world = AllByRecursion (IsLookedAfter world) world.legs
 
 -- orders of a continuing call
-abbrev pub is_talk : Act → Bool
-is_talk (acts.Indicate indication) = true
-is_talk acts.Answer = true
-is_talk (acts.Dtmf digit) = true
-is_talk (acts.Media span) = true
-is_talk act = false
+abbrev pub is_talk : Command MediaSpan → Bool
+is_talk (commands.Indicate indication) = true
+is_talk commands.Answer = true
+is_talk (commands.Dtmf digit) = true
+is_talk (commands.Media span) = true
+is_talk command = false
 
 -- if the next order is one of a continuing call, its leg isn't only offered
 abbrev pub NoneMeetsOffered : World → Type 0
 NoneMeetsOffered world =
-    (who : ℕ) (caller : Caller) (name : LegName) (act : Act) (leg : Leg) → slice_get world.callers who ≡ Some caller
-    → next_of caller.work ≡ Some (needs.Order name act) → is_talk act ≡ true
+    (who : ℕ) (caller : Caller) (name : LegName) (command : Command MediaSpan) (leg : Leg)
+    → slice_get world.callers who ≡ Some caller → next_of caller.work ≡ Some (needs.Order name command) → is_talk command ≡ true
     → leg_named world.legs name ≡ Some leg → leg.seen.stage ≢ stages.Offered
 
 -- ---- once all callers are idle

@@ -1,4 +1,3 @@
-pub mod Act
 pub mod Work
 pub mod WorkState
 pub mod WorkInside

@@ -13,7 +13,7 @@ use Rattle.call_signals.specs.declared.cause.Cause.{Cause}
 use Rattle.call_signals.specs.declared.cause.Cause.TheVariants.{NormalClearing}
 use Rattle.call_signals.specs.declared.openings.Opening.{Opening}
 use Rattle.call_signals.specs.declared.openings.Opening.TheVariants.{Offers}
-use Rattle.call_signals.specs.declared.order.OrderKind.{OrderKind}
+use Rattle.call_signals.specs.Order.{kind_of, Kind}
 use Rattle.call_signals.specs.declared.signal.MediaSpan.{MediaSpan}
 use Rattle.call_signals.specs.declared.signal.Signal.{Signal}
 use Rattle.call_signals.specs.declared.stage.Stage.{Stage}
@@ -27,7 +27,6 @@ use Rattle.peer_lock.specs.declared.errors.OrderError.TheVariants as order_error
 use Rattle.peer_lock.specs.declared.errors.PeerError.{PeerError}
 use Rattle.peer_lock.specs.declared.errors.RejectError.{RejectError}
 use Rattle.peer_lock.specs.declared.steps.Status.{Status}
-use Rattle.call_control.specs.Act.{act_kind}
 use Rattle.call_control.specs.SeenReply.{heard}
 use Rattle.call_control.specs.declared.need.Need.{Need}
 use Rattle.call_control.specs.declared.need.Need.TheVariants as needs
@@ -219,18 +218,18 @@ at_open_out scene name called choice =
 -- ---- orders
 
 -- a leg that is carried to this stage by an order
-abbrev pub carried : OrderKind → Leg → Stage → Leg
+abbrev pub carried : Kind → Leg → Stage → Leg
 carried kind leg stage = turned leg (ordered kind leg.seen stage)
 
 abbrev pub refused : Scene → OrderError → Answer
 refused scene error = answer scene (replies.Order (Err error))
 
-abbrev pub obeys : Scene → OrderKind → Leg → Option Stage → Answer
+abbrev pub obeys : Scene → Kind → Leg → Option Stage → Answer
 obeys scene kind leg None = refused scene order_errors.WrongStage
 obeys scene kind leg (Some stage) =
     answer (record scene { legs = replaced scene.legs (carried kind leg stage) }) (replies.Order (Ok tt))
 
-abbrev pub at_leg : Scene → OrderKind → Option Leg → Choice → Answer
+abbrev pub at_leg : Scene → Kind → Option Leg → Choice → Answer
 at_leg scene kind None choice = refused scene order_errors.Gone
 at_leg scene kind (Some leg) (RefusesOrder error) =
     if refuses_order kind error && is_some (stage_after kind leg.seen.stage)
@@ -239,7 +238,7 @@ at_leg scene kind (Some leg) (RefusesOrder error) =
 at_leg scene kind (Some leg) choice = obeys scene kind leg (stage_after kind leg.seen.stage)
 
 -- a peer without step credit refuses before any other check
-abbrev pub at_order : Scene → LegName → OrderKind → Choice → Answer
+abbrev pub at_order : Scene → LegName → Kind → Choice → Answer
 at_order scene name kind (RefusesOrder order_errors.StepsSpent) = refused scene order_errors.StepsSpent
 at_order scene name kind choice = at_leg scene kind (leg_named scene.legs name) choice
 
@@ -307,7 +306,7 @@ answered scene (needs.Datagram peer) called choice = at_datagram scene peer choi
 answered scene (needs.RejectNew peer) called choice = at_reject_new scene choice
 answered scene (needs.OpenIn name) called choice = at_open_in scene name choice
 answered scene (needs.OpenOut name) called choice = at_open_out scene name called choice
-answered scene (needs.Order name act) called choice = at_order scene name (act_kind act) choice
+answered scene (needs.Order name command) called choice = at_order scene name (kind_of command) choice
 answered scene (needs.Tick peer) called choice = at_tick scene peer choice
 answered scene (needs.Look peer number) called choice =
     answer scene (replies.Look (status_of (told_cause choice) (leg_at scene.legs peer number)))

@@ -12,8 +12,9 @@ use Rattle.call_signals.specs.declared.signal.Signal.TheVariants as signals
 use Rattle.peer_lock.specs.declared.errors.OrderError.TheVariants as order_errors
 use Rattle.peer_lock.specs.declared.errors.PeerError.{PeerError}
 use Rattle.peer_lock.specs.declared.errors.PeerError.TheVariants as peer_errors
-use Rattle.call_control.specs.declared.act.Act.{Act}
-use Rattle.call_control.specs.declared.act.Act.TheVariants as acts
+use Rattle.call_signals.specs.declared.order.Command.{Command}
+use Rattle.call_signals.specs.declared.signal.MediaSpan.{MediaSpan}
+use Rattle.call_signals.specs.declared.order.Command.TheVariants as commands
 use Rattle.call_control.specs.declared.need.Need.{Need}
 use Rattle.call_control.specs.declared.need.Need.TheVariants as needs
 use Rattle.call_control.specs.declared.need.Route.TheVariants as routes
@@ -73,25 +74,25 @@ next_at (places.RejectNew peer) = Some (needs.RejectNew peer)
 next_at (places.OpenIn name) = Some (needs.OpenIn name)
 next_at (places.GiveBack name) = Some (needs.Release name)
 next_at (places.Routing offered) = Some (needs.Route offered)
-next_at (places.Rejecting offered cause) = Some (needs.Order offered (acts.Reject cause))
+next_at (places.Rejecting offered cause) = Some (needs.Order offered (commands.Reject cause))
 next_at (places.ReserveOut offered peer format) = Some (needs.Reserve peer)
 next_at (places.Bridging offered target format) = Some (needs.Bridge offered target)
-next_at (places.Accepting offered target format) = Some (needs.Order offered (acts.Accept format))
+next_at (places.Accepting offered target format) = Some (needs.Order offered (commands.Accept format))
 next_at (places.OpenOut offered target) = Some (needs.OpenOut target)
 next_at (places.Checking target) = Some (needs.Partner target)
 next_at (places.Undoing offered target) = Some (needs.Release target)
-next_at (places.Dooming name cause) = Some (needs.Order name (acts.Doom cause))
-next_at (places.Finding name act) = Some (needs.Partner name)
-next_at (places.Passing partner act) = Some (needs.Order partner act)
+next_at (places.Dooming name cause) = Some (needs.Order name (commands.Doom cause))
+next_at (places.Finding name command) = Some (needs.Partner name)
+next_at (places.Passing partner command) = Some (needs.Order partner command)
 next_at (places.Looking name) = Some (needs.Look name.peer name.number)
 next_at (places.LookingAt peer number) = Some (needs.Look peer number)
 next_at (places.FindingPartner name cause) = Some (needs.Partner name)
-next_at (places.HangingUp name partner cause) = Some (needs.Order partner (acts.Hangup cause))
-next_at (places.Paying name cause) = Some (needs.Order name acts.Paid)
+next_at (places.HangingUp name partner cause) = Some (needs.Order partner (commands.Hangup cause))
+next_at (places.Paying name cause) = Some (needs.Order name commands.Paid)
 next_at (places.Retiring name cause) = Some (needs.Retire name)
 next_at (places.Freeing name cause) = Some (needs.Release name)
 next_at (places.Tick peer) = Some (needs.Tick peer)
-next_at (places.HangUp name) = Some (needs.Order name (acts.Hangup NormalClearing))
+next_at (places.HangUp name) = Some (needs.Order name (commands.Hangup NormalClearing))
 next_at (places.ReserveCall peer) = Some (needs.Reserve peer)
 next_at (places.OpenCall name) = Some (needs.OpenOut name)
 next_at places.End = None
@@ -112,10 +113,10 @@ finish (Some name) looks = at (places.Looking name) (record nothing_left { looks
 -- the first place for a leg's signal; none if it needs no step
 abbrev pub place_for : LegName → Signal → Option Place
 place_for name signals.Offered = Some (places.Routing name)
-place_for name (signals.Indicated indication) = Some (places.Finding name (acts.Indicate indication))
-place_for name signals.Answered = Some (places.Finding name acts.Answer)
-place_for name (signals.Dtmf digit) = Some (places.Finding name (acts.Dtmf digit))
-place_for name (signals.Media span) = Some (places.Finding name (acts.Media span))
+place_for name (signals.Indicated indication) = Some (places.Finding name (commands.Indicate indication))
+place_for name signals.Answered = Some (places.Finding name commands.Answer)
+place_for name (signals.Dtmf digit) = Some (places.Finding name (commands.Dtmf digit))
+place_for name (signals.Media span) = Some (places.Finding name (commands.Media span))
 place_for name signals.Hangup = None
 
 abbrev pub passed_on : Option Place → Rest → Work → Work
@@ -188,20 +189,20 @@ abbrev pub after_check : Reply → LegName → Rest → Work
 after_check (replies.Partner (Some partner)) target rest = go_on rest
 after_check reply target rest = at (places.Dooming target NormalClearing) rest
 
-abbrev pub after_find : Reply → Act → Rest → Work
-after_find (replies.Partner (Some partner)) act rest = at (places.Passing partner act) rest
-after_find reply act rest = go_on rest
+abbrev pub after_find : Reply → Command MediaSpan → Rest → Work
+after_find (replies.Partner (Some partner)) command rest = at (places.Passing partner command) rest
+after_find reply command rest = go_on rest
 
 -- refused for want of room: the partner is doomed, unless it was media
-abbrev pub after_no_room : Act → LegName → Rest → Work
-after_no_room (acts.Media span) partner rest = go_on rest
-after_no_room act partner rest = at (places.Dooming partner NormalClearing) rest
+abbrev pub after_no_room : Command MediaSpan → LegName → Rest → Work
+after_no_room (commands.Media span) partner rest = go_on rest
+after_no_room command partner rest = at (places.Dooming partner NormalClearing) rest
 
-abbrev pub after_pass : Reply → LegName → Act → Rest → Work
-after_pass (replies.Order (Err order_errors.WindowFull)) partner act rest = after_no_room act partner rest
-after_pass (replies.Order (Err order_errors.RecordFull)) partner act rest = after_no_room act partner rest
-after_pass (replies.Order (Err order_errors.Memory)) partner act rest = after_no_room act partner rest
-after_pass reply partner act rest = go_on rest
+abbrev pub after_pass : Reply → LegName → Command MediaSpan → Rest → Work
+after_pass (replies.Order (Err order_errors.WindowFull)) partner command rest = after_no_room command partner rest
+after_pass (replies.Order (Err order_errors.RecordFull)) partner command rest = after_no_room command partner rest
+after_pass (replies.Order (Err order_errors.Memory)) partner command rest = after_no_room command partner rest
+after_pass reply partner command rest = go_on rest
 
 -- a leg that owes is settled with its partner before it is taken out; the partner is hung up for the cause of its end
 abbrev pub after_status : LegName → Bool → Cause → Rest → Work
@@ -269,8 +270,8 @@ told_at (places.OpenOut offered target) reply rest = after_open_out reply offere
 told_at (places.Checking target) reply rest = after_check reply target rest
 told_at (places.Undoing offered target) reply rest = at (places.Dooming offered NormalClearing) rest
 told_at (places.Dooming name cause) reply rest = go_on rest
-told_at (places.Finding name act) reply rest = after_find reply act rest
-told_at (places.Passing partner act) reply rest = after_pass reply partner act rest
+told_at (places.Finding name command) reply rest = after_find reply command rest
+told_at (places.Passing partner command) reply rest = after_pass reply partner command rest
 told_at (places.Looking name) reply rest = after_look reply name rest
 told_at (places.LookingAt peer number) reply rest = after_look_at reply rest
 told_at (places.FindingPartner name cause) reply rest = after_find_partner reply name cause rest

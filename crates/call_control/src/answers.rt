@@ -3,13 +3,12 @@ ghost use Rattle.std.specs.Prelude.{◌≡◌, [], Option, None, Some, Ok, false
 ghost use Rattle.call_control.specs.Work as work;
 ghost use Rattle.call_control.specs.WorkState.{onwards_after, brings_list};
 
-use crate::act::Act;
 use crate::need::Route;
 use crate::place::Place;
 use crate::reply::Reply;
 use crate::work::Work;
 use call_book::{LegName, PeerId, ReserveError};
-use leg_machine::{Cause, Format};
+use leg_machine::{Cause, Command, Format, MediaSpan};
 use peer_lock::{OrderError, PeerError, Status};
 
 impl Work {
@@ -64,8 +63,8 @@ impl Work {
                 Cause::NormalClearing,
             )),
             Place::Dooming(_, _) => self.go_on(),
-            Place::Finding(_, act) => self.after_find(reply, act),
-            Place::Passing(partner, act) => self.after_pass(reply, partner, act),
+            Place::Finding(_, command) => self.after_find(reply, command),
+            Place::Passing(partner, command) => self.after_pass(reply, partner, command),
             Place::Looking(name) => self.after_look(reply, name),
             Place::LookingAt(_, _) => self.after_look_at(reply),
             Place::FindingPartner(name, cause) => self.after_find_partner(reply, name, cause),
@@ -159,32 +158,32 @@ impl Work {
         }
     }
 
-    fn after_find(&mut self, reply: &Reply, act: Act)
-        ensures { self.new ≡ record self.old { work = work.after_find reply.now act self.old.work.rest } }
+    fn after_find(&mut self, reply: &Reply, command: Command<MediaSpan>)
+        ensures { self.new ≡ record self.old { work = work.after_find reply.now command self.old.work.rest } }
     {
         match reply {
-            Reply::Partner(Some(partner)) => self.go_to(Place::Passing(*partner, act)),
+            Reply::Partner(Some(partner)) => self.go_to(Place::Passing(*partner, command)),
             _ => self.go_on(),
         }
     }
 
-    fn after_pass(&mut self, reply: &Reply, partner: LegName, act: Act)
-        ensures { self.new ≡ record self.old { work = work.after_pass reply.now partner act self.old.work.rest } }
+    fn after_pass(&mut self, reply: &Reply, partner: LegName, command: Command<MediaSpan>)
+        ensures { self.new ≡ record self.old { work = work.after_pass reply.now partner command self.old.work.rest } }
     {
         match reply {
             Reply::Order(
                 Err(OrderError::WindowFull | OrderError::RecordFull | OrderError::Memory),
-            ) => self.after_no_room(&act, partner),
+            ) => self.after_no_room(&command, partner),
             _ => self.go_on(),
         }
     }
 
     // Dooms the partner, which had no room, unless the order was media.
-    fn after_no_room(&mut self, act: &Act, partner: LegName)
-        ensures { self.new ≡ record self.old { work = work.after_no_room act.now partner self.old.work.rest } }
+    fn after_no_room(&mut self, command: &Command<MediaSpan>, partner: LegName)
+        ensures { self.new ≡ record self.old { work = work.after_no_room command.now partner self.old.work.rest } }
     {
-        match act {
-            Act::Media(_) => self.go_on(),
+        match command {
+            Command::Media(_) => self.go_on(),
             _ => self.go_to(Place::Dooming(partner, Cause::NormalClearing)),
         }
     }

@@ -13,7 +13,7 @@ ghost use Rattle.leg_machine.specs.OrderTable.{wants_memory};
 ghost use Rattle.leg_machine.specs.Seen.{kind_of};
 ghost use Rattle.call_signals.specs.Message.{is_vnak, message_of};
 ghost use Rattle.call_signals.specs.declared.format.Format.{Format};
-ghost use Rattle.call_signals.specs.declared.order.Order.{Order};
+ghost use Rattle.call_signals.specs.Order.{Order};
 ghost use Rattle.peer_lock.specs.Arrivals.{datagram_step};
 ghost use Rattle.peer_lock.specs.CarriedMedia.{LiesWithin, handed_octets};
 ghost use Rattle.peer_lock.specs.Legs.{AreLegs, PeerLegs, NamedLeg, leg_at, leg_named, with_place};
@@ -28,7 +28,6 @@ ghost use Rattle.peer_lock.specs.declared.errors.OrderError.TheVariants.{Memory}
 ghost use Rattle.peer_lock.specs.declared.errors.PeerError.{PeerError};
 ghost use Rattle.peer_lock.specs.declared.errors.RejectError.{RejectError};
 ghost use Rattle.peer_lock.specs.declared.steps.TickReport.{TickReport};
-ghost use Rattle.call_control.specs.Act.{act_kind};
 ghost use Rattle.call_control.specs.Beginnings.{Beginning, beginning_at, is_over, is_answer, is_made, is_refusal};
 ghost use Rattle.call_control.specs.DatagramsLeft.{OpensFew, brought_by, datagrams_left, is_first, need_puts, step_puts};
 ghost use Rattle.call_control.specs.Leases.{lease_in, lease_needed, lease_after};
@@ -37,7 +36,8 @@ ghost use Rattle.call_control.specs.Scene.{Scene, is_leased, dropped, leg_at as 
 ghost use Rattle.call_control.specs.SeenReply.{heard};
 ghost use Rattle.call_control.specs.Sees.{Sees, IsWorldStep};
 ghost use Rattle.call_control.specs.Work.{Work, next_of, after_told};
-ghost use Rattle.call_control.specs.declared.act.Act.{Act};
+ghost use Rattle.call_signals.specs.declared.order.Command.{Command};
+ghost use Rattle.call_signals.specs.declared.signal.MediaSpan.{MediaSpan};
 ghost use Rattle.call_control.specs.declared.need.Need.TheVariants as needs;
 ghost use Rattle.call_control.specs.declared.reply.Reply.{Reply};
 ghost use Rattle.call_control.specs.declared.reply.Reply.TheVariants as replies;
@@ -107,20 +107,20 @@ pub fn peers_steps_are_the_worlds()
     ensures refused_calls_out { (legs : PeerLegs) (name : LegName) (error : OpenError) (scene : Scene) (called : Bool) →
         Sees scene.legs legs →
         IsWorldStep scene (needs.OpenOut name) called legs legs (replies.OpenOut (Err error)) scene.leases }
-    ensures orders { (peer : PeerView) (credit : ℕ) (name : LegName) (act : Act) (order : Order) (now : ℕ) (scene : Scene)
-        (called : Bool) →
-        AreLegs peer.legs → name.peer ≡ peer.legs.peer → kind_of order ≡ act_kind act →
+    ensures orders { (peer : PeerView) (credit : ℕ) (name : LegName) (command : Command MediaSpan) (order : Order) (now : ℕ)
+        (scene : Scene) (called : Bool) →
+        AreLegs peer.legs → name.peer ≡ peer.legs.peer → kind_of order ≡ kind_of command →
         order_refused_by peer credit name order now ≡ None →
         Sees scene.legs peer.legs →
-        IsWorldStep scene (needs.Order name act) called peer.legs (ordered_step peer name order now).legs
+        IsWorldStep scene (needs.Order name command) called peer.legs (ordered_step peer name order now).legs
         (replies.Order (Ok tt)) scene.leases }
-    ensures refused_orders { (peer : PeerView) (credit : ℕ) (name : LegName) (act : Act) (order : Order) (now : ℕ)
-        (error : OrderError) (scene : Scene) (called : Bool) →
-        AreLegs peer.legs → name.peer ≡ peer.legs.peer → kind_of order ≡ act_kind act →
+    ensures refused_orders { (peer : PeerView) (credit : ℕ) (name : LegName) (command : Command MediaSpan) (order : Order)
+        (now : ℕ) (error : OrderError) (scene : Scene) (called : Bool) →
+        AreLegs peer.legs → name.peer ≡ peer.legs.peer → kind_of order ≡ kind_of command →
         IsOrderRefusal (order_refused_by peer credit name order now) error →
         (error ≡ Memory → (named : NamedLeg) → leg_named peer.legs name ≡ Some named → wants_memory named.leg order now ≡ true) →
         Sees scene.legs peer.legs →
-        IsWorldStep scene (needs.Order name act) called peer.legs peer.legs (replies.Order (Err error)) scene.leases }
+        IsWorldStep scene (needs.Order name command) called peer.legs peer.legs (replies.Order (Err error)) scene.leases }
     ensures ticks { (old new : PeerView) (now : ℕ) (report : TickReport) (scene : Scene) (called : Bool) →
         AreLegs old.legs → Ticks old now report new → Sees scene.legs old.legs →
         IsWorldStep scene (needs.Tick old.legs.peer) called old.legs new.legs (replies.Tick (Ok report.is_quiet)) scene.leases }

@@ -1,7 +1,6 @@
 //! The steps of one call of an exchange as plain data, and laws of many calls at once ("Call Setup").
 #![tactic(auto)]
 
-mod act;
 mod answers;
 pub mod laws;
 mod need;
@@ -9,7 +8,6 @@ mod place;
 mod reply;
 mod work;
 
-pub use act::Act;
 pub use need::{Need, Route};
 pub use place::Place;
 pub use reply::{Reply, StepReply};

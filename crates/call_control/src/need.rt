@@ -1,8 +1,7 @@
 //! The steps that a call needs.
 
-use crate::act::Act;
 use call_book::{LegName, PeerId};
-use leg_machine::Format;
+use leg_machine::{Command, Format, MediaSpan};
 
 /// The result of routing an offered call.
 #[derive(Clone, Copy)]
@@ -27,7 +26,7 @@ pub enum Need {
     /// Opens a leg by a NEW of the exchange, under a lease on this name.
     OpenOut(LegName),
     /// Gives an order to the leg of this name.
-    Order(LegName, Act),
+    Order(LegName, Command<MediaSpan>),
     /// Ticks this peer.
     Tick(PeerId),
     /// Reads the status of the leg of this peer and number.

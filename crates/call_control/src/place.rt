@@ -1,9 +1,8 @@
 //! The place of a call among its steps.
 ghost use Rattle.std.specs.Prelude.{◌≡◌};
 
-use crate::act::Act;
 use call_book::{LegName, PeerId};
-use leg_machine::{Cause, Format, Signal};
+use leg_machine::{Cause, Command, Format, MediaSpan, Signal};
 
 /// The place of a call among its steps.
 #[derive(Clone, Copy)]
@@ -37,9 +36,9 @@ pub enum Place {
     /// This leg is doomed, for this cause.
     Dooming(LegName, Cause),
     /// The signal of this leg is for its partner.
-    Finding(LegName, Act),
+    Finding(LegName, Command<MediaSpan>),
     /// The partner gets the order.
-    Passing(LegName, Act),
+    Passing(LegName, Command<MediaSpan>),
     /// This leg is finished.
     Looking(LegName),
     /// The leg of this peer and number, if there is one, is finished.
@@ -75,10 +74,13 @@ impl Place {
     {
         match signal {
             Signal::Offered => Some(Place::Routing(name)),
-            Signal::Indicated(indication) => Some(Place::Finding(name, Act::Indicate(indication))),
-            Signal::Answered => Some(Place::Finding(name, Act::Answer)),
-            Signal::Dtmf(digit) => Some(Place::Finding(name, Act::Dtmf(digit))),
-            Signal::Media(span) => Some(Place::Finding(name, Act::Media(span))),
+            Signal::Indicated(indication) => Some(Place::Finding(
+                name,
+                Command::Indicate(indication),
+            )),
+            Signal::Answered => Some(Place::Finding(name, Command::Answer)),
+            Signal::Dtmf(digit) => Some(Place::Finding(name, Command::Dtmf(digit))),
+            Signal::Media(span) => Some(Place::Finding(name, Command::Media(span))),
             Signal::Hangup => None,
         }
     }

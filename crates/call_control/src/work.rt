@@ -3,12 +3,11 @@ ghost use Rattle.std.specs.Prelude.{◌≡◌, ◌+◌, ◌≤◌, ◌^◌, [], 
 ghost use Rattle.call_control.specs.Beginnings.{beginning_at};
 ghost use Rattle.call_control.specs.Work as work;
 
-use crate::act::Act;
 use crate::need::Need;
 use crate::place::Place;
 use crate::reply::StepReply;
 use call_book::{LegName, PeerId};
-use leg_machine::{Cause, Signal};
+use leg_machine::{Cause, Command, Signal};
 use peer_lock::{Offer, Onwards};
 use std::marker::Model;
 
@@ -115,23 +114,28 @@ impl Work {
                 Some(Need::Release(name))
             }
             Place::Routing(offered) => Some(Need::Route(offered)),
-            Place::Rejecting(offered, cause) => Some(Need::Order(offered, Act::Reject(cause))),
+            Place::Rejecting(offered, cause) => Some(Need::Order(offered, Command::Reject(cause))),
             Place::Bridging(offered, target, _) => Some(Need::Bridge(offered, target)),
-            Place::Accepting(offered, _, format) => Some(Need::Order(offered, Act::Accept(format))),
+            Place::Accepting(offered, _, format) => Some(Need::Order(
+                offered,
+                Command::Accept(format),
+            )),
             Place::Checking(name) | Place::Finding(name, _) | Place::FindingPartner(name, _) => {
                 Some(Need::Partner(name))
             }
-            Place::Dooming(name, cause) => Some(Need::Order(name, Act::Doom(cause))),
-            Place::Passing(partner, act) => Some(Need::Order(partner, act)),
+            Place::Dooming(name, cause) => Some(Need::Order(name, Command::Doom(cause))),
+            Place::Passing(partner, command) => Some(Need::Order(partner, command)),
             Place::Looking(name) => Some(Need::Look(name.owner(), name.number)),
             Place::LookingAt(peer, number) => Some(Need::Look(peer, number)),
             Place::HangingUp(_, partner, cause) => {
-                Some(Need::Order(partner, Act::Hangup(cause)))
+                Some(Need::Order(partner, Command::Hangup(cause)))
             }
-            Place::Paying(name, _) => Some(Need::Order(name, Act::Paid)),
+            Place::Paying(name, _) => Some(Need::Order(name, Command::Paid)),
             Place::Retiring(name, _) => Some(Need::Retire(name)),
             Place::Tick(peer) => Some(Need::Tick(peer)),
-            Place::HangUp(name) => { Some(Need::Order(name, Act::Hangup(Cause::NormalClearing))) }
+            Place::HangUp(name) => {
+                Some(Need::Order(name, Command::Hangup(Cause::NormalClearing)))
+            }
             Place::End => None,
         }
     }

@@ -34,7 +34,7 @@ pub use message::Message;
 pub use moments::Moments;
 pub use new_elements::NewElements;
 pub use openings::Opening;
-pub use order::{Order, OrderError, OrderKind};
+pub use order::{Command, Order, OrderError, order_of};
 pub use outcomes::{Heard, Judged, MediaIn, Outcome, StepError, TickOutcome};
 pub use reply::{Replies, ReplyFrame};
 pub use rules::{Credential, PeerRules};

@@ -1,14 +1,15 @@
-//! The orders of the layer above, and the refusals of these.
-ghost use Rattle.std.specs.Prelude.{◌≡◌};
+//! The commands of the layer above to a leg, and the refusals of orders.
+ghost use Rattle.std.specs.Prelude.{◌≡◌, length};
+ghost use Rattle.call_signals.specs.Order.{kind_of, media_of, media_over, LiesWithin};
 
 use crate::cause::Cause;
 use crate::format::Format;
-use crate::signal::{Digit, Indication};
+use crate::signal::{Digit, Indication, MediaSpan};
 use std::alloc::AllocError;
 
-/// An order of the layer above to a leg.
-#[derive(Clone, Copy, Debug)]
-pub enum Order<'a> {
+/// A command of the layer above to a leg. `M` is the form of its media.
+#[derive(Clone, Copy, Debug, PartialEq, Eq)]
+pub enum Command<M> {
     /// Accepts the offered call, in this format.
     Accept(Format),
     /// Rejects the offered call.
@@ -19,8 +20,8 @@ pub enum Order<'a> {
     Answer,
     /// Sends a digit.
     Dtmf(Digit),
-    /// Sends 1 to 1,380 octets of media.
-    Media(&'a [u8]),
+    /// Sends media.
+    Media(M),
     /// Hangs up, for this cause.
     Hangup(Cause),
     /// Hangs up as soon as a tick can, for this cause.
@@ -29,38 +30,44 @@ pub enum Order<'a> {
     Paid,
 }
 
-/// An order without the octets of its media.
-#[derive(Clone, Copy, Debug, PartialEq, Eq)]
-pub enum OrderKind {
-    Accept(Format),
-    Reject(Cause),
-    Indicate(Indication),
-    Answer,
-    Dtmf(Digit),
-    Media,
-    Hangup(Cause),
-    Doom(Cause),
-    Paid,
-}
+/// An order of the layer above to a leg. Its media is 1 to 1,380 octets.
+pub type Order<'a> = Command<&'a [u8]>;
 
-impl Order<'_> {
-    ghost use Rattle.call_signals.specs.Order.{kind_of};
-
-    /// Returns the order without the octets of its media.
-    pub fn kind(&self) -> OrderKind
+impl<M> Command<M> {
+    /// Returns the command without its media.
+    pub fn kind(&self) -> Command<()>
         ensures { result ≡ kind_of self.now }
     {
         match self {
-            Order::Accept(format) => OrderKind::Accept(*format),
-            Order::Reject(cause) => OrderKind::Reject(*cause),
-            Order::Indicate(indication) => OrderKind::Indicate(*indication),
-            Order::Answer => OrderKind::Answer,
-            Order::Dtmf(digit) => OrderKind::Dtmf(*digit),
-            Order::Media(_) => OrderKind::Media,
-            Order::Hangup(cause) => OrderKind::Hangup(*cause),
-            Order::Doom(cause) => OrderKind::Doom(*cause),
-            Order::Paid => OrderKind::Paid,
+            Command::Accept(format) => Command::Accept(*format),
+            Command::Reject(cause) => Command::Reject(*cause),
+            Command::Indicate(indication) => Command::Indicate(*indication),
+            Command::Answer => Command::Answer,
+            Command::Dtmf(digit) => Command::Dtmf(*digit),
+            Command::Media(_) => Command::Media(()),
+            Command::Hangup(cause) => Command::Hangup(*cause),
+            Command::Doom(cause) => Command::Doom(*cause),
+            Command::Paid => Command::Paid,
         }
+    }
+}
+
+/// Returns the order with the octets of its media, whose place is within these octets of a datagram.
+pub fn order_of<'a>(command: &Command<MediaSpan>, octets: &'a [u8]) -> Order<'a>
+    requires { LiesWithin command.now (length octets.now) }
+    ensures kind { kind_of result ≡ kind_of command.now }
+    ensures media { media_of result ≡ media_over command.now octets.now }
+{
+    match command {
+        Command::Accept(format) => Order::Accept(*format),
+        Command::Reject(cause) => Order::Reject(*cause),
+        Command::Indicate(indication) => Order::Indicate(*indication),
+        Command::Answer => Order::Answer,
+        Command::Dtmf(digit) => Order::Dtmf(*digit),
+        Command::Media(span) => Order::Media(&octets[span.start..span.end]),
+        Command::Hangup(cause) => Order::Hangup(*cause),
+        Command::Doom(cause) => Order::Doom(*cause),
+        Command::Paid => Order::Paid,
     }
 }
 

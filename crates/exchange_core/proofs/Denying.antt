@@ -45,7 +45,7 @@ as_steps false = 0
 unasked_is_none : (call : Call) (offer : Option Offer) (need : Need) (reply : Reply) → IsUnasked call offer need reply
     → 0 ≡ as_steps (is_made reply)
 unasked_is_none call offer (needs.OpenOut name) reply is = sym (ap (λ r. as_steps (is_made r)) is.0)
-unasked_is_none call offer (needs.Order name act) reply is = sym (ap (λ r. as_steps (is_made r)) is.0)
+unasked_is_none call offer (needs.Order name command) reply is = sym (ap (λ r. as_steps (is_made r)) is.0)
 unasked_is_none call offer (needs.Look peer number) reply is = sym (ap (λ r. as_steps (is_made r)) is.0)
 unasked_is_none call offer (needs.Retire name) reply is = sym (ap (λ r. as_steps (is_made r)) is)
 unasked_is_none call offer (needs.Route name) (replies.Route route) is = refl
@@ -154,7 +154,7 @@ called_is_some (Some text) some is = absurd (cc)
 
 -- the peer of an order, or of a leg that is opened
 abbrev peer_needed : Option Need → ℕ
-peer_needed (Some (needs.Order name act)) = name.peer
+peer_needed (Some (needs.Order name command)) = name.peer
 peer_needed (Some (needs.OpenOut name)) = name.peer
 peer_needed need = 0
 
@@ -168,7 +168,7 @@ asked_first call offer (places.RejectNew peer) (needs.RejectNew other) reply nex
 asked_first call offer (places.OpenIn name) (needs.OpenIn other) reply next first within given unasked = unasked
 asked_first call offer (places.Tick peer) (needs.Tick other) reply next first within given unasked = unasked
 asked_first call offer (places.ReserveCall peer) (needs.Reserve other) reply next first within given unasked = unasked
-asked_first call offer (places.HangUp name) (needs.Order other act) reply next first within given unasked =
+asked_first call offer (places.HangUp name) (needs.Order other command) reply next first within given unasked =
     let peer = ap peer_needed next in let most = unasked.1 in absurd (omega (arith, within, most, peer))
 asked_first call offer (places.OpenCall name) (needs.OpenOut other) reply next first within given unasked =
     let peer = ap peer_needed next in elim unasked.1 [

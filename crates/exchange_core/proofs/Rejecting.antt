@@ -53,7 +53,7 @@ none_since pass = rejected_is pass pass None (none_rejected pass)
 unasked_rejects_none : (call : Call) (offer : Option Offer) (need : Need) (reply : Reply) → IsUnasked call offer need reply
     → None ≡ rejection_of reply
 unasked_rejects_none call offer (needs.OpenOut name) reply is = sym (ap rejection_of is.0)
-unasked_rejects_none call offer (needs.Order name act) reply is = sym (ap rejection_of is.0)
+unasked_rejects_none call offer (needs.Order name command) reply is = sym (ap rejection_of is.0)
 unasked_rejects_none call offer (needs.Look peer number) reply is = sym (ap rejection_of is.0)
 unasked_rejects_none call offer (needs.Retire name) reply is = sym (ap rejection_of is)
 unasked_rejects_none call offer (needs.Route name) (replies.Route route) is = refl

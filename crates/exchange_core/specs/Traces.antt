@@ -5,10 +5,11 @@ use Rattle.call_book.specs.declared.leg_name.LegName.{LegName}
 use Rattle.call_signals.specs.Caller.{numbered}
 use Rattle.call_signals.specs.Format.{lowest_format}
 use Rattle.call_signals.specs.declared.format.Format.{Format}
-use Rattle.call_control.specs.Act.{act_kind, act_media}
+use Rattle.call_signals.specs.Order.{kind_of, media_over}
 use Rattle.call_control.specs.Work.{next_of, after_told, of_datagram}
 use Rattle.call_control.specs.WorkState.{WorkState, begun, offer_in, onwards_after}
-use Rattle.call_control.specs.declared.act.Act.{Act}
+use Rattle.call_signals.specs.declared.order.Command.{Command}
+use Rattle.call_signals.specs.declared.signal.MediaSpan.{MediaSpan}
 use Rattle.call_control.specs.declared.need.Need.{Need}
 use Rattle.call_control.specs.declared.need.Need.TheVariants as needs
 use Rattle.call_control.specs.declared.reply.StepReply.{StepReply}
@@ -71,11 +72,6 @@ abbrev pub quiet_of : Result TickReport StepsSpent → Result Bool StepsSpent
 quiet_of (Ok report) = Ok report.is_quiet
 quiet_of (Err spent) = Err spent
 
--- the octets of an order's media
-abbrev pub octets_of : Option (List ℕ) → List ℕ
-octets_of None = []
-octets_of (Some media) = media
-
 -- the caller; unknown for a call from outside
 abbrev pub caller_of : Option (List ℕ) → List ℕ
 caller_of None = numbered None
@@ -106,7 +102,7 @@ abbrev pub IsUnasked : Call → Option Offer → Need → Reply → Type 0
 IsUnasked call offer (needs.OpenOut name) reply =
     (reply ≡ replies.OpenOut (Err open_errors.NumberBusy)) ×
     ((length call.plan.peers ≤ name.peer) ⊎ ((call.called ≡ None) × LacksFormat call.plan offer name.peer))
-IsUnasked call offer (needs.Order name act) reply = (reply ≡ replies.Order (Err order_errors.Gone)) ×
+IsUnasked call offer (needs.Order name command) reply = (reply ≡ replies.Order (Err order_errors.Gone)) ×
     (length call.plan.peers ≤ name.peer)
 IsUnasked call offer (needs.Look peer number) reply = (reply ≡ replies.Look None) × (length call.plan.peers ≤ peer)
 IsUnasked call offer (needs.Retire name) reply = reply ≡ replies.Retire false
@@ -128,9 +124,8 @@ IsMade call offer need reply (mades.OpenOut peer name called caller format now a
     (need ≡ needs.OpenOut name) × (reply ≡ replies.OpenOut (done_of answer)) × (peer ≡ name.peer)
     × IsCallFor call.plan call.called offer peer called caller format × (now ≡ call.now)
 IsMade call offer need reply (mades.Order peer name kind media now answer) =
-    (act : Act) × (need ≡ needs.Order name act) × (reply ≡ replies.Order (done_of answer)) × (peer ≡ name.peer) ×
-    (kind ≡ act_kind act)
-    × (media ≡ octets_of (act_media act call.octets)) × (now ≡ call.now)
+    (command : Command MediaSpan) × (need ≡ needs.Order name command) × (reply ≡ replies.Order (done_of answer))
+    × (peer ≡ name.peer) × (kind ≡ kind_of command) × (media ≡ media_over command call.octets) × (now ≡ call.now)
 IsMade call offer need reply (mades.Tick peer now answer) = (need ≡ needs.Tick peer) × (reply ≡ replies.Tick (quiet_of answer)) ×
     (now ≡ call.now)
 IsMade call offer need reply (mades.Look peer number answer) = (need ≡ needs.Look peer number) × (reply ≡ replies.Look answer)

@@ -27,7 +27,8 @@ use crate::exchange::Exchange;
 use crate::gate::Gate;
 use crate::resources::{Given, TaskResources};
 use call_book::{Lease, LegName, PeerId, ReserveError, Stale};
-use call_control::{Act, Need, Reply, StepReply, Work};
+use call_control::{Need, Reply, StepReply, Work};
+use leg_machine::{Command, MediaSpan, order_of};
 use peer_lock::laws::media_is_the_datagrams;
 use peer_lock::{LedgerSet, OpenError, OrderError, Status, StepsSpent};
 use std::sync::Wait;
@@ -120,21 +121,21 @@ impl<G: Gate, J: LedgerSet> Exchange<G, J> {
         rt: &R,
         pass: &mut Pass<J>,
         name: LegName,
-        act: Act,
+        command: Command<MediaSpan>,
         given: &Given<'_, '_, '_>,
     ) -> Result<(), OrderError>
-        requires media { IsCovered (length given.now.datagram) pass.old.credit.octets (media_of name act) }
+        requires media { IsCovered (length given.now.datagram) pass.old.credit.octets (media_of name command) }
         ensures noted { (offer : Option OfferValue) →
-            Makes (call_of self.now given.entry.now) offer (needs.Order name act) (replies.Order result) pass.old pass.new }
+            Makes (call_of self.now given.entry.now) offer (needs.Order name command) (replies.Order result) pass.old pass.new }
         ensures steps { OnOk result (pass.new.credit.steps ≡ pass.old.credit.steps + 1) }
-        ensures octets { OnOk result (pass.new.credit.octets + handed_octets (media_of name act) ≡ pass.old.credit.octets) }
+        ensures octets { OnOk result (pass.new.credit.octets + handed_octets (media_of name command) ≡ pass.old.credit.octets) }
         ensures refused { OnErr result (pass.new.credit ≡ pass.old.credit) }
     {
         if name.peer >= self.plan.peer_count() {
             pass.note_unasked();
             return Err(OrderError::Gone);
         }
-        let order = act.order(given.datagram.octets());
+        let order = order_of(&command, given.datagram.octets());
         let answer = self
             .locked(rt, name.owner())
             .order(pass, name, &order, given.now);
@@ -290,7 +291,7 @@ impl<G: Gate, J: LedgerSet> Exchange<G, J> {
             Need::OpenOut(name) => {
                 Reply::OpenOut(self.open_from(rt, pass, name, work.offer(), given, resources))
             }
-            Need::Order(name, act) => { Reply::Order(self.act(rt, pass, name, act, given)) }
+            Need::Order(name, command) => { Reply::Order(self.act(rt, pass, name, command, given)) }
             Need::Tick(peer) => Reply::Tick(self.tick_given(rt, pass, peer, given)),
             Need::Look(peer, number) => Reply::Look(self.look_at(rt, pass, peer, number)),
             Need::Retire(name) => Reply::Retire(self.retire_into(

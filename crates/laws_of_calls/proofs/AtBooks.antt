@@ -6,11 +6,12 @@ use Rattle.call_book.specs.Book.{Book, has_name, reserve_answer, after_reserve, 
 use Rattle.call_book.specs.declared.errors.BridgeError.{BridgeError}
 use Rattle.call_book.specs.declared.errors.ReserveError.{ReserveError}
 use Rattle.call_book.specs.declared.leg_name.LegName.{LegName}
-use Rattle.call_control.specs.Act.{act_kind}
+use Rattle.call_signals.specs.Order.{kind_of}
 use Rattle.call_control.specs.Scene.{Leg, Scene, Choice, Goes, KeepsLeg, Answer, answer, answered, is_leased, dropped, leg_at}
 use Rattle.call_control.specs.Scene.{if_named, at_leg, status_of, told_cause, reserves, bridges}
 use Rattle.call_control.specs.SeenReply.{seen_reply}
-use Rattle.call_control.specs.declared.act.Act.{Act}
+use Rattle.call_signals.specs.declared.order.Command.{Command}
+use Rattle.call_signals.specs.declared.signal.MediaSpan.{MediaSpan}
 use Rattle.call_control.specs.declared.need.Need.{Need}
 use Rattle.call_control.specs.declared.need.Need.TheVariants as needs
 use Rattle.call_control.specs.declared.reply.Reply.{Reply}
@@ -70,11 +71,11 @@ module _ (laws : PeersSteps) (old new : Stored) (scene : Scene) (called : Bool) 
   keeps name reply made = unchanged (needs.Retire name) reply (replies.Retire false) KeepsLeg made refl refl
 
   -- no leg of the world is of a peer that doesn't exist
-  pub is_gone : (name : LegName) (act : Act) (reply : Reply) → IsNobodys name.peer old new reply
-      → ComesOut scene (needs.Order name act) called new reply
-  is_gone name act reply made =
-      unchanged (needs.Order name act) reply (replies.Order (Err order_errors.Gone)) Goes made.unchanged
-      (ap (λ (l : Option Leg). at_leg scene (act_kind act) (if_named name l) Goes)
+  pub is_gone : (name : LegName) (command : Command MediaSpan) (reply : Reply) → IsNobodys name.peer old new reply
+      → ComesOut scene (needs.Order name command) called new reply
+  is_gone name command reply made =
+      unchanged (needs.Order name command) reply (replies.Order (Err order_errors.Gone)) Goes made.unchanged
+      (ap (λ (l : Option Leg). at_leg scene (kind_of command) (if_named name l) Goes)
       (of.legs.none name.peer name.number made.nobody)) refl
 
   pub looks : (place number : ℕ) (reply : Reply)

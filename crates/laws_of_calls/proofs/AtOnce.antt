@@ -95,13 +95,13 @@ module _ {within : Type 0} {called : List LegName} {stored : Stored} (in_world :
       ∙ ap (λ (b : Book). bit (has_name b name)) seen.book)
 
   pub none_offered : NoneMeetsOffered stored
-  none_offered who caller name act peer named at needed talk there has stage =
+  none_offered who caller name command peer named at needed talk there has stage =
       let found = at_name (leg_at peer.legs name.number) name named has in
       let worlds = the_worlds in_world name.peer name.number peer named there found.0 in
       let name_is : worlds.leg.name ≡ name = ap (λ (n : SeenNamed). n.name) worlds.looks ∙ found.1 in
       let test : is_same worlds.leg.name name ≡ true = rw name_is (is_same_itself name) in
       let leg : world_leg_named world.legs name ≡ Some worlds.leg = rw (worlds.at, test) refl in
-      in_world.offered who caller name act worlds.leg (stands who caller at) needed talk leg
+      in_world.offered who caller name command worlds.leg (stands who caller at) needed talk leg
       (ap (λ (n : SeenNamed). n.seen.stage) worlds.looks ∙ stage)
 
   -- a stored leg that needs somebody responsible is one of the world's

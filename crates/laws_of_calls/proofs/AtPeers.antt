@@ -6,7 +6,8 @@ use Rattle.call_book.specs.declared.leg_name.LegName.{LegName}
 use Rattle.call_control.specs.Scene.{Leg, Scene, answered, is_leased, dropped, leg_at, without}
 use Rattle.call_control.specs.SeenReply.{heard, seen_reply}
 use Rattle.call_control.specs.Sees.{IsWorldStep}
-use Rattle.call_control.specs.declared.act.Act.{Act}
+use Rattle.call_signals.specs.declared.order.Command.{Command}
+use Rattle.call_signals.specs.declared.signal.MediaSpan.{MediaSpan}
 use Rattle.call_control.specs.declared.need.Need.{Need}
 use Rattle.call_control.specs.declared.need.Need.TheVariants as needs
 use Rattle.call_control.specs.declared.reply.Reply.{Reply}
@@ -115,38 +116,43 @@ module _ (laws : PeersSteps) (old new : Stored) (scene : Scene) (called : Bool) 
       (at_peer (needs.OpenOut name) seen name.peer a.before a.after seen (dropped scene.leases name) a.at a.peers a.book left refl
       refl)
 
-  obeys : (name : LegName) (act : Act) (reply : Reply) (before after : PeerView) → slice_get old.peers name.peer ≡ Some before
-      → new.peers ≡ slice_set old.peers name.peer after → new.book ≡ old.book → Obeys name act before after reply
-      → ComesOut scene (needs.Order name act) called new reply
-  obeys name act reply before after at peers book d =
+  obeys : (name : LegName) (command : Command MediaSpan) (reply : Reply) (before after : PeerView)
+      → slice_get old.peers name.peer ≡ Some before
+      → new.peers ≡ slice_set old.peers name.peer after → new.book ≡ old.book → Obeys name command before after reply
+      → ComesOut scene (needs.Order name command) called new reply
+  obeys name command reply before after at peers book d =
       let seen : Reply = replies.Order (Ok tt) in
       let mine = are name.peer before at in
-      let step = laws.orders before d.credit name act d.order d.now scene called mine.sound.legs (sym mine.place_is) d.kind
+      let step = laws.orders before d.credit name command d.order d.now scene called mine.sound.legs (sym mine.place_is) d.kind
       d.unrefused (of.legs.sees name.peer before at) in
-      let left = subst (λ (p : PeerView). IsWorldStep scene (needs.Order name act) called before.legs p.legs seen scene.leases)
+      let left = subst
+      (λ (p : PeerView). IsWorldStep scene (needs.Order name command) called before.legs p.legs seen scene.leases)
       (sym d.becomes) step in
-      subst (ComesOut scene (needs.Order name act) called new) (sym d.answers)
-      (at_peer (needs.Order name act) seen name.peer before after seen scene.leases at peers book left refl refl)
+      subst (ComesOut scene (needs.Order name command) called new) (sym d.answers)
+      (at_peer (needs.Order name command) seen name.peer before after seen scene.leases at peers book left refl refl)
 
-  disobeys : (name : LegName) (act : Act) (reply : Reply) (before after : PeerView) → slice_get old.peers name.peer ≡ Some before
-      → new.peers ≡ slice_set old.peers name.peer after → new.book ≡ old.book → Disobeys name act before after reply
-      → ComesOut scene (needs.Order name act) called new reply
-  disobeys name act reply before after at peers book d =
+  disobeys : (name : LegName) (command : Command MediaSpan) (reply : Reply) (before after : PeerView)
+      → slice_get old.peers name.peer ≡ Some before
+      → new.peers ≡ slice_set old.peers name.peer after → new.book ≡ old.book → Disobeys name command before after reply
+      → ComesOut scene (needs.Order name command) called new reply
+  disobeys name command reply before after at peers book d =
       let seen : Reply = replies.Order (Err d.error) in
       let mine = are name.peer before at in
-      let step = laws.refused_orders before d.credit name act d.order d.now d.error scene called mine.sound.legs
+      let step = laws.refused_orders before d.credit name command d.order d.now d.error scene called mine.sound.legs
       (sym mine.place_is) d.kind d.refused d.memory
       (of.legs.sees name.peer before at) in
-      let left = subst (λ (p : PeerView). IsWorldStep scene (needs.Order name act) called before.legs p.legs seen scene.leases)
+      let left = subst
+      (λ (p : PeerView). IsWorldStep scene (needs.Order name command) called before.legs p.legs seen scene.leases)
       (sym d.becomes) step in
-      subst (ComesOut scene (needs.Order name act) called new) (sym d.answers)
-      (at_peer (needs.Order name act) seen name.peer before after seen scene.leases at peers book left refl refl)
+      subst (ComesOut scene (needs.Order name command) called new) (sym d.answers)
+      (at_peer (needs.Order name command) seen name.peer before after seen scene.leases at peers book left refl refl)
 
-  pub takes_order : (name : LegName) (act : Act) (reply : Reply) → AtPeer name.peer (TakesOrder name act) old new reply
-      → ComesOut scene (needs.Order name act) called new reply
-  takes_order name act reply a = elim (a.does) [
-    | inl d ↦ obeys name act reply a.before a.after a.at a.peers a.book d
-    | inr d ↦ disobeys name act reply a.before a.after a.at a.peers a.book d
+  pub takes_order : (name : LegName) (command : Command MediaSpan) (reply : Reply)
+      → AtPeer name.peer (TakesOrder name command) old new reply
+      → ComesOut scene (needs.Order name command) called new reply
+  takes_order name command reply a = elim (a.does) [
+    | inl d ↦ obeys name command reply a.before a.after a.at a.peers a.book d
+    | inr d ↦ disobeys name command reply a.before a.after a.at a.peers a.book d
   ]
 
   pub takes_tick : (place : ℕ) (reply : Reply) → AtPeer place TakesTick old new reply

@@ -10,10 +10,9 @@ use Rattle.call_book.specs.declared.errors.ReserveError.{ReserveError}
 use Rattle.call_book.specs.declared.leg_name.LegName.{LegName}
 use Rattle.call_signals.specs.declared.openings.Opening.{Opening}
 use Rattle.call_signals.specs.declared.openings.Opening.TheVariants.{Offers}
-use Rattle.call_signals.specs.declared.order.OrderKind.{OrderKind}
+use Rattle.call_signals.specs.Order.{kind_of, Kind}
 use Rattle.call_signals.specs.declared.stage.Stage.{Stage}
 use Rattle.leg_machine.specs.Seen.{Lapse, SeenFrame, stage_after}
-use Rattle.call_control.specs.Act.{act_kind}
 use Rattle.call_control.specs.Law.{times}
 use Rattle.call_control.specs.Scene.{Leg, Scene, Choice, RefusesDatagram, RefusesRejecting, RefusesOpening, RefusesOrder}
 use Rattle.call_control.specs.Scene.{RefusesTick, KeepsLeg, Brings, Lapses, Opens, LeadsTo, Answer, answered, is_call, leg_at}
@@ -108,12 +107,12 @@ module _ (names : List LegName) where
     brought_called peer number frame (Some leg) at =
         replaced_called scene.legs (brought frame leg) (one_of (IsCalled names) scene.legs peer number leg at are) are
 
-    obeys_called : (kind : OrderKind) (leg : Leg) (o : Option Stage) → IsCalled names leg
+    obeys_called : (kind : Kind) (leg : Leg) (o : Option Stage) → IsCalled names leg
         → AreCalled names (obeys scene kind leg o).scene.legs
     obeys_called kind leg None is = are
     obeys_called kind leg (Some stage) is = replaced_called scene.legs (carried kind leg stage) is are
 
-    at_leg_called : (kind : OrderKind) (o : Option Leg) (choice : Choice) → ((leg : Leg) → o ≡ Some leg → IsCalled names leg)
+    at_leg_called : (kind : Kind) (o : Option Leg) (choice : Choice) → ((leg : Leg) → o ≡ Some leg → IsCalled names leg)
         → AreCalled names (at_leg scene kind o choice).scene.legs
     at_leg_called kind None choice is = are
     at_leg_called kind (Some leg) (RefusesOrder error) is =
@@ -126,7 +125,7 @@ module _ (names : List LegName) where
         one_of (IsCalled names) scene.legs name.peer name.number leg
         (named_one (leg_at scene.legs name.peer name.number) name leg at) are
 
-    ordered_called : (name : LegName) (kind : OrderKind) (choice : Choice)
+    ordered_called : (name : LegName) (kind : Kind) (choice : Choice)
         → AreCalled names (at_order scene name kind choice).scene.legs
     ordered_called name kind (RefusesOrder order_errors.StepsSpent) = are
     ordered_called name kind choice = at_leg_called kind (leg_named scene.legs name) choice (the_named name)
@@ -170,7 +169,7 @@ module _ (names : List LegName) where
     answered_called (needs.OpenIn name) called choice given = opened_called name Offers
     answered_called (needs.OpenOut name) called (RefusesOpening error) given = are
     answered_called (needs.OpenOut name) called choice given = sent_called name called (given name refl)
-    answered_called (needs.Order name act) called choice given = ordered_called name (act_kind act) choice
+    answered_called (needs.Order name command) called choice given = ordered_called name (kind_of command) choice
     answered_called (needs.Tick peer) called RefusesTick given = are
     answered_called (needs.Tick peer) called (Lapses lapses quiet) given = all_lapsed_called peer lapses scene.legs are
     answered_called (needs.Tick peer) called choice given = are

@@ -55,8 +55,9 @@ module _ (laws : PeersSteps) (old new : Stored) (scene : Scene) (called : Bool) 
   comes_out (needs.OpenOut name) reply leased (inr made) =
       refuses laws old new scene called are of (needs.OpenOut name) reply (λ error. replies.OpenOut (Err error)) RefusesOpening
       (λ error. refl) (λ error. refl) made
-  comes_out (needs.Order name act) reply leased (inl made) = takes_order laws old new scene called are of name act reply made
-  comes_out (needs.Order name act) reply leased (inr made) = is_gone laws old new scene called are of name act reply made
+  comes_out (needs.Order name command) reply leased (inl made) =
+      takes_order laws old new scene called are of name command reply made
+  comes_out (needs.Order name command) reply leased (inr made) = is_gone laws old new scene called are of name command reply made
   comes_out (needs.Tick place) reply leased (inl made) = takes_tick laws old new scene called are of place reply made
   comes_out (needs.Tick place) reply leased (inr made) =
       refuses laws old new scene called are of (needs.Tick place) reply (λ error. replies.Tick (Err error)) (λ error. RefusesTick)

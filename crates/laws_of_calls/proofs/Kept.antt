@@ -83,12 +83,12 @@ module _ (P : ℕ → PeerView → Type 0) (stays : IsOfShape P) where
   made (needs.OpenIn name) old new reply all (inr r) = same old new r.unchanged.peers all
   made (needs.OpenOut name) old new reply all (inl a) = at_peer old new reply name.peer (SendsNew name) (new_out name) all a
   made (needs.OpenOut name) old new reply all (inr r) = same old new r.unchanged.peers all
-  made (needs.Order name act) old new reply all (inl a) =
-      at_peer old new reply name.peer (TakesOrder name act) (λ before after r does. elim does [
+  made (needs.Order name command) old new reply all (inl a) =
+      at_peer old new reply name.peer (TakesOrder name command) (λ before after r does. elim does [
         | inl d ↦ becomes before after _ d.becomes (of_order before (leg_named before.legs name) d.order d.now)
         | inr d ↦ becomes before after before d.becomes (itself before.legs)
       ]) all a
-  made (needs.Order name act) old new reply all (inr n) = same old new n.unchanged.peers all
+  made (needs.Order name command) old new reply all (inr n) = same old new n.unchanged.peers all
   made (needs.Tick place) old new reply all (inl a) =
       at_peer old new reply place TakesTick (λ before after r d. of_tick before after d.now d.report d.ticks) all a
   made (needs.Tick place) old new reply all (inr r) = same old new r.unchanged.peers all
@@ -152,8 +152,8 @@ counts_made (needs.OpenIn name) old new reply (inl a) = ap (λ (b : Book). b.cou
 counts_made (needs.OpenIn name) old new reply (inr r) = ap (λ (b : Book). b.counts) r.unchanged.becomes
 counts_made (needs.OpenOut name) old new reply (inl a) = ap (λ (b : Book). b.counts) a.book
 counts_made (needs.OpenOut name) old new reply (inr r) = ap (λ (b : Book). b.counts) r.unchanged.becomes
-counts_made (needs.Order name act) old new reply (inl a) = ap (λ (b : Book). b.counts) a.book
-counts_made (needs.Order name act) old new reply (inr n) = ap (λ (b : Book). b.counts) n.unchanged.becomes
+counts_made (needs.Order name command) old new reply (inl a) = ap (λ (b : Book). b.counts) a.book
+counts_made (needs.Order name command) old new reply (inr n) = ap (λ (b : Book). b.counts) n.unchanged.becomes
 counts_made (needs.Tick place) old new reply (inl a) = ap (λ (b : Book). b.counts) a.book
 counts_made (needs.Tick place) old new reply (inr r) = ap (λ (b : Book). b.counts) r.unchanged.becomes
 counts_made (needs.Look place number) old new reply m = ap (λ (b : Book). b.counts) m.becomes

@@ -3,7 +3,8 @@ use Rattle.std.specs.Prelude.{option_map, Err}
 use Rattle.std.proofs.Common.{◌≡◌, ℕ, zero, suc, false, List, [], ◌∷◌, Option, Some, slice_get, slice_set, refl, sym, ap, ◌∙◌}
 use Rattle.std.proofs.Common.{inl, inr}
 use Rattle.call_book.specs.declared.leg_name.LegName.{LegName}
-use Rattle.call_control.specs.declared.act.Act.{Act}
+use Rattle.call_signals.specs.declared.order.Command.{Command}
+use Rattle.call_signals.specs.declared.signal.MediaSpan.{MediaSpan}
 use Rattle.call_control.specs.declared.need.Need.TheVariants as needs
 use Rattle.call_control.specs.declared.reply.Reply.{Reply}
 use Rattle.call_control.specs.declared.reply.Reply.TheVariants as replies
@@ -55,9 +56,10 @@ calls_out name old before after reply there sound (inl d) = inl (at name.peer _ 
 calls_out name old before after reply there sound (inr s) =
     inr (record { error = s.0; unchanged = stays name.peer old before after reply (replies.OpenOut (Err s.0)) there s.1 })
 
-pub orders : (name : LegName) (act : Act) → IsStepAt name.peer (needs.Order name act) (TakesOrder name act)
-orders name act old before after reply there sound does =
-    inl (at name.peer (TakesOrder name act) old before after reply there sound does)
+pub orders : (name : LegName) (command : Command MediaSpan)
+    → IsStepAt name.peer (needs.Order name command) (TakesOrder name command)
+orders name command old before after reply there sound does =
+    inl (at name.peer (TakesOrder name command) old before after reply there sound does)
 
 pub ticks : (place : ℕ) → IsStepAt place (needs.Tick place) GoesOn
 ticks place old before after reply there sound (inl d) = inl (at place _ old before after reply there sound d)

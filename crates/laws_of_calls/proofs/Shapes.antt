@@ -1,8 +1,8 @@
 -- No step of a peer changes its place in the plan, nor its local numbers.
 use Rattle.std.proofs.Common.{◌≡◌, ℕ, zero, suc, Bool, true, false, cond, List, [], ◌∷◌, length, Option, Some, None, slice_set}
 use Rattle.std.proofs.Common.{refl, sym, ap, subst, ◌∙◌}
-use Rattle.call_signals.specs.declared.order.Order.{Order}
-use Rattle.call_signals.specs.declared.order.Order.TheVariants as orders
+use Rattle.call_signals.specs.Order.{Order}
+use Rattle.call_signals.specs.declared.order.Command.TheVariants as commands
 use Rattle.iax_frames.specs.FullFrame.{FullFrame}
 use Rattle.iax_frames.specs.declared.datagram.Datagram.{Datagram}
 use Rattle.iax_frames.specs.declared.datagram.Datagram.TheVariants.{Full, Mini, Video, Trunk}
@@ -70,7 +70,7 @@ counted_legs (sent.Mini timestamp) peer number media now =
 pub of_order : (peer : PeerView) (o : Option NamedLeg) (order : Order) (now : ℕ)
     → IsShapedAs peer.legs (ordered_if peer o order now).legs
 of_order peer None order now = itself peer.legs
-of_order peer (Some named) (orders.Media media) now =
+of_order peer (Some named) (commands.Media media) now =
     let s = media_sent named.leg now in
     subst (IsShapedAs peer.legs) (sym (counted_legs s (with_media s peer named media.now now) named.name.number media.now now))
     (placed peer.legs named.name.number _)

@@ -1,8 +1,7 @@
 -- A step that isn't refused because a peer's steps are spent has a choice that isn't such a refusal.
 use Rattle.std.specs.Prelude.{Ok, Err}
 use Rattle.std.proofs.Common.{◌≡◌, Bool, true, false, Option, Some, None, refl, sym, ◌⊎◌, inl, inr}
-use Rattle.call_signals.specs.declared.order.OrderKind.{OrderKind}
-use Rattle.call_control.specs.Act.{act_kind}
+use Rattle.call_signals.specs.Order.{kind_of, Kind}
 use Rattle.call_control.specs.Law.{is_spent as is_spent_choice}
 use Rattle.call_control.specs.Scene.{Leg, Scene, Choice, Goes, RefusesDatagram, RefusesRejecting, RefusesOpening, RefusesOrder}
 use Rattle.call_control.specs.Scene.{RefusesTick, Answer, answered, at_leg, leg_named}
@@ -23,50 +22,50 @@ PlaysNoPart scene need called choice =
     (is_spent (answered scene need called choice).reply ≡ true)
     ⊎ (answered scene need called choice ≡ answered scene need called Goes)
 
-at_datagram : (scene : Scene) (kind : OrderKind) (o : Option Leg)
+at_datagram : (scene : Scene) (kind : Kind) (o : Option Leg)
     → at_leg scene kind o (RefusesDatagram peer_errors.StepsSpent) ≡ at_leg scene kind o Goes
 at_datagram scene kind None = refl
 at_datagram scene kind (Some leg) = refl
 
-at_rejecting : (scene : Scene) (kind : OrderKind) (o : Option Leg)
+at_rejecting : (scene : Scene) (kind : Kind) (o : Option Leg)
     → at_leg scene kind o (RefusesRejecting reject_errors.StepsSpent) ≡ at_leg scene kind o Goes
 at_rejecting scene kind None = refl
 at_rejecting scene kind (Some leg) = refl
 
-at_opening : (scene : Scene) (kind : OrderKind) (o : Option Leg)
+at_opening : (scene : Scene) (kind : Kind) (o : Option Leg)
     → at_leg scene kind o (RefusesOpening open_errors.StepsSpent) ≡ at_leg scene kind o Goes
 at_opening scene kind None = refl
 at_opening scene kind (Some leg) = refl
 
-at_tick : (scene : Scene) (kind : OrderKind) (o : Option Leg) → at_leg scene kind o RefusesTick ≡ at_leg scene kind o Goes
+at_tick : (scene : Scene) (kind : Kind) (o : Option Leg) → at_leg scene kind o RefusesTick ≡ at_leg scene kind o Goes
 at_tick scene kind None = refl
 at_tick scene kind (Some leg) = refl
 
 of_datagram : (scene : Scene) (need : Need) (called : Bool)
     → PlaysNoPart scene need called (RefusesDatagram peer_errors.StepsSpent)
 of_datagram scene (needs.Datagram peer) called = inl refl
-of_datagram scene (needs.Order name act) called = inr (at_datagram scene (act_kind act) (leg_named scene.legs name))
+of_datagram scene (needs.Order name command) called = inr (at_datagram scene (kind_of command) (leg_named scene.legs name))
 of_datagram scene need called = inr refl
 
 of_rejecting : (scene : Scene) (need : Need) (called : Bool)
     → PlaysNoPart scene need called (RefusesRejecting reject_errors.StepsSpent)
 of_rejecting scene (needs.RejectNew peer) called = inl refl
-of_rejecting scene (needs.Order name act) called = inr (at_rejecting scene (act_kind act) (leg_named scene.legs name))
+of_rejecting scene (needs.Order name command) called = inr (at_rejecting scene (kind_of command) (leg_named scene.legs name))
 of_rejecting scene need called = inr refl
 
 of_opening : (scene : Scene) (need : Need) (called : Bool) → PlaysNoPart scene need called (RefusesOpening open_errors.StepsSpent)
 of_opening scene (needs.OpenIn name) called = inl refl
 of_opening scene (needs.OpenOut name) called = inl refl
-of_opening scene (needs.Order name act) called = inr (at_opening scene (act_kind act) (leg_named scene.legs name))
+of_opening scene (needs.Order name command) called = inr (at_opening scene (kind_of command) (leg_named scene.legs name))
 of_opening scene need called = inr refl
 
 of_order : (scene : Scene) (need : Need) (called : Bool) → PlaysNoPart scene need called (RefusesOrder order_errors.StepsSpent)
-of_order scene (needs.Order name act) called = inl refl
+of_order scene (needs.Order name command) called = inl refl
 of_order scene need called = inr refl
 
 of_tick : (scene : Scene) (need : Need) (called : Bool) → PlaysNoPart scene need called RefusesTick
 of_tick scene (needs.Tick peer) called = inl refl
-of_tick scene (needs.Order name act) called = inr (at_tick scene (act_kind act) (leg_named scene.legs name))
+of_tick scene (needs.Order name command) called = inr (at_tick scene (kind_of command) (leg_named scene.legs name))
 of_tick scene need called = inr refl
 
 plays : (scene : Scene) (need : Need) (called : Bool) (choice : Choice) → is_spent_choice choice ≡ true

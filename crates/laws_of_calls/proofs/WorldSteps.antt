@@ -3,12 +3,12 @@ use Rattle.std.specs.Prelude.{option_map, Ok, Err}
 use Rattle.std.proofs.Common.{◌≡◌, ℕ, ◌≤◌, Bool, true, List, ◌∷◌, None, Some}
 use Rattle.call_book.specs.declared.leg_name.LegName.{LegName}
 use Rattle.call_signals.specs.declared.format.Format.{Format}
-use Rattle.call_signals.specs.declared.order.Order.{Order}
-use Rattle.call_control.specs.Act.{act_kind}
+use Rattle.call_signals.specs.Order.{Order}
 use Rattle.call_control.specs.Scene.{Scene, Choice, answered, is_leased, dropped, leg_at as world_leg_at, without}
 use Rattle.call_control.specs.SeenReply.{heard, seen_reply}
 use Rattle.call_control.specs.Sees.{Sees, IsWorldStep}
-use Rattle.call_control.specs.declared.act.Act.{Act}
+use Rattle.call_signals.specs.declared.order.Command.{Command}
+use Rattle.call_signals.specs.declared.signal.MediaSpan.{MediaSpan}
 use Rattle.call_control.specs.declared.need.Need.{Need}
 use Rattle.call_control.specs.declared.need.Need.TheVariants as needs
 use Rattle.call_control.specs.declared.reply.Reply.{Reply}
@@ -52,19 +52,19 @@ pub record PeersSteps : Type 0 where
       → AreLegs peer.legs → is_free_name peer.legs name ≡ true → Sees scene.legs peer.legs → is_leased scene.leases name ≡ true
       → IsWorldStep scene (needs.OpenOut name) called peer.legs (opens_out peer name number caller format now).peer.legs
       (replies.OpenOut (Ok tt)) (dropped scene.leases name)
-  pub orders : (peer : PeerView) (credit : ℕ) (name : LegName) (act : Act) (order : Order) (now : ℕ) (scene : Scene)
-      (called : Bool) → AreLegs peer.legs
-      → name.peer ≡ peer.legs.peer → kind_of order ≡ act_kind act → order_refused_by peer credit name order now ≡ None
+  pub orders : (peer : PeerView) (credit : ℕ) (name : LegName) (command : Command MediaSpan) (order : Order) (now : ℕ)
+      (scene : Scene) (called : Bool) → AreLegs peer.legs
+      → name.peer ≡ peer.legs.peer → kind_of order ≡ kind_of command → order_refused_by peer credit name order now ≡ None
       → Sees scene.legs peer.legs
-      → IsWorldStep scene (needs.Order name act) called peer.legs (ordered_step peer name order now).legs (replies.Order (Ok tt))
-      scene.leases
-  pub refused_orders : (peer : PeerView) (credit : ℕ) (name : LegName) (act : Act) (order : Order) (now : ℕ) (error : OrderError)
-      (scene : Scene) (called : Bool)
-      → AreLegs peer.legs → name.peer ≡ peer.legs.peer → kind_of order ≡ act_kind act
+      → IsWorldStep scene (needs.Order name command) called peer.legs (ordered_step peer name order now).legs
+      (replies.Order (Ok tt)) scene.leases
+  pub refused_orders : (peer : PeerView) (credit : ℕ) (name : LegName) (command : Command MediaSpan) (order : Order) (now : ℕ)
+      (error : OrderError) (scene : Scene) (called : Bool)
+      → AreLegs peer.legs → name.peer ≡ peer.legs.peer → kind_of order ≡ kind_of command
       → IsOrderRefusal (order_refused_by peer credit name order now) error
       → (error ≡ Memory → (named : NamedLeg) → leg_named peer.legs name ≡ Some named → wants_memory named.leg order now ≡ true)
       → Sees scene.legs peer.legs
-      → IsWorldStep scene (needs.Order name act) called peer.legs peer.legs (replies.Order (Err error)) scene.leases
+      → IsWorldStep scene (needs.Order name command) called peer.legs peer.legs (replies.Order (Err error)) scene.leases
   pub ticks : (old new : PeerView) (now : ℕ) (report : TickReport) (scene : Scene) (called : Bool) → AreLegs old.legs
       → Ticks old now report new → Sees scene.legs old.legs
       → IsWorldStep scene (needs.Tick old.legs.peer) called old.legs new.legs (replies.Tick (Ok report.is_quiet)) scene.leases

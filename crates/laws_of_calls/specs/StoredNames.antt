@@ -9,7 +9,8 @@ use Rattle.call_control.specs.Leases.{lease_needed}
 use Rattle.call_control.specs.Scene.{is_leased}
 use Rattle.call_control.specs.Work.{next_of}
 use Rattle.call_control.specs.World.{Caller}
-use Rattle.call_control.specs.declared.act.Act.{Act}
+use Rattle.call_signals.specs.declared.order.Command.{Command}
+use Rattle.call_signals.specs.declared.signal.MediaSpan.{MediaSpan}
 use Rattle.call_control.specs.declared.need.Need.{Need}
 use Rattle.call_control.specs.declared.need.Need.TheVariants as needs
 use Rattle.peer_lock.specs.Legs.{NamedLeg, leg_at, leg_named, is_free_name}
@@ -87,8 +88,8 @@ OpeningsAreFree stored =
 -- if the next order is one of a continuing call, its stored leg isn't only offered
 abbrev pub NoneMeetsOffered : Stored → Type 0
 NoneMeetsOffered stored =
-    (who : ℕ) (caller : Caller) (name : LegName) (act : Act) (peer : PeerView) (named : NamedLeg)
-    → slice_get stored.callers who ≡ Some caller → next_of caller.work ≡ Some (needs.Order name act) → is_talk act ≡ true
+    (who : ℕ) (caller : Caller) (name : LegName) (command : Command MediaSpan) (peer : PeerView) (named : NamedLeg)
+    → slice_get stored.callers who ≡ Some caller → next_of caller.work ≡ Some (needs.Order name command) → is_talk command ≡ true
     → slice_get stored.peers name.peer ≡ Some peer → leg_named peer.legs name ≡ Some named → named.leg.stage ≢ Offered
 
 -- once all callers are idle, the names in the book are exactly those of the stored legs

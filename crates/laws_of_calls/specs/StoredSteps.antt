@@ -8,10 +8,10 @@ use Rattle.call_book.specs.declared.errors.BridgeError.{BridgeError}
 use Rattle.call_book.specs.declared.errors.Stale.{Stale}
 use Rattle.call_book.specs.declared.leg_name.LegName.{LegName}
 use Rattle.call_signals.specs.declared.format.Format.{Format}
-use Rattle.call_signals.specs.declared.order.Order.{Order}
-use Rattle.call_control.specs.Act.{act_kind}
+use Rattle.call_signals.specs.Order.{Order}
 use Rattle.call_control.specs.Scene.{dropped}
-use Rattle.call_control.specs.declared.act.Act.{Act}
+use Rattle.call_signals.specs.declared.order.Command.{Command}
+use Rattle.call_signals.specs.declared.signal.MediaSpan.{MediaSpan}
 use Rattle.call_control.specs.declared.need.Need.{Need}
 use Rattle.call_control.specs.declared.need.Need.TheVariants as needs
 use Rattle.call_control.specs.declared.need.Route.{Route}
@@ -86,30 +86,30 @@ pub record SendsNew (name : LegName) (old new : PeerView) (reply : Reply) : Type
   pub answers : reply ≡ replies.OpenOut (Ok tt)
 
 -- the leg of a name obeys an order
-pub record Obeys (name : LegName) (act : Act) (old new : PeerView) (reply : Reply) : Type 0 where
+pub record Obeys (name : LegName) (command : Command MediaSpan) (old new : PeerView) (reply : Reply) : Type 0 where
   pub credit : ℕ
   pub order : Order
   pub now : ℕ
-  pub kind : kind_of order ≡ act_kind act
+  pub kind : kind_of order ≡ kind_of command
   pub unrefused : order_refused_by old credit name order now ≡ None
   pub becomes : new ≡ ordered_step old name order now
   pub answers : reply ≡ replies.Order (Ok tt)
 
 -- .. or it is refused: for the cause that is due, and for want of memory only if the leg needs some
-pub record Disobeys (name : LegName) (act : Act) (old new : PeerView) (reply : Reply) : Type 0 where
+pub record Disobeys (name : LegName) (command : Command MediaSpan) (old new : PeerView) (reply : Reply) : Type 0 where
   pub credit : ℕ
   pub order : Order
   pub now : ℕ
   pub error : OrderError
-  pub kind : kind_of order ≡ act_kind act
+  pub kind : kind_of order ≡ kind_of command
   pub refused : IsOrderRefusal (order_refused_by old credit name order now) error
   pub memory : error ≡ order_errors.Memory → (named : NamedLeg) → leg_named old.legs name ≡ Some named
       → wants_memory named.leg order now ≡ true
   pub becomes : new ≡ old
   pub answers : reply ≡ replies.Order (Err error)
 
-abbrev pub TakesOrder : LegName → Act → PeerView → PeerView → Reply → Type 0
-TakesOrder name act old new reply = Obeys name act old new reply ⊎ Disobeys name act old new reply
+abbrev pub TakesOrder : LegName → Command MediaSpan → PeerView → PeerView → Reply → Type 0
+TakesOrder name command old new reply = Obeys name command old new reply ⊎ Disobeys name command old new reply
 
 -- a tick; the answer says whether no leg has ended and none owes then
 pub record TakesTick (old new : PeerView) (reply : Reply) : Type 0 where
@@ -196,8 +196,8 @@ Makes (needs.OpenIn name) old new reply =
     AtPeer name.peer (TakesNew name) old new reply ⊎ IsRefused (λ error. replies.OpenIn (Err error)) old new reply
 Makes (needs.OpenOut name) old new reply =
     AtPeer name.peer (SendsNew name) old new reply ⊎ IsRefused (λ error. replies.OpenOut (Err error)) old new reply
-Makes (needs.Order name act) old new reply =
-    AtPeer name.peer (TakesOrder name act) old new reply ⊎ IsNobodys name.peer old new reply
+Makes (needs.Order name command) old new reply =
+    AtPeer name.peer (TakesOrder name command) old new reply ⊎ IsNobodys name.peer old new reply
 Makes (needs.Tick place) old new reply =
     AtPeer place TakesTick old new reply ⊎ IsRefused (λ spent. replies.Tick (Err spent)) old new reply
 Makes (needs.Look place number) old new reply = Answers (replies.Look (look_at (slice_get old.peers place) number)) old new reply

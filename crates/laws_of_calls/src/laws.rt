@@ -8,7 +8,8 @@ ghost use Rattle.call_control.specs.Law.{is_spent as is_spent_choice};
 ghost use Rattle.call_control.specs.Law.{IsOpened as IsOpenedWorld};
 ghost use Rattle.call_control.specs.Scene.{Choice};
 ghost use Rattle.call_control.specs.World.{World, Event, Starts as EventStarts, Steps as EventSteps, happens, run};
-ghost use Rattle.call_control.specs.declared.act.Act.{Act};
+ghost use Rattle.call_signals.specs.declared.order.Command.{Command};
+ghost use Rattle.call_signals.specs.declared.signal.MediaSpan.{MediaSpan};
 ghost use Rattle.call_control.specs.declared.need.Need.TheVariants as needs;
 ghost use Rattle.call_control.specs.declared.reply.Reply.TheVariants as replies;
 ghost use Rattle.peer_lock.specs.Legs.{leg_at};
@@ -54,7 +55,8 @@ pub fn locked_calls_are_steps()
     ensures rejected_calls { (place : ℕ) → IsStepAt place (needs.RejectNew place) HearsNewWithoutNumber }
     ensures calls_in { (name : LegName) → IsStepAt name.peer (needs.OpenIn name) (HearsNew name) }
     ensures calls_out { (name : LegName) → IsStepAt name.peer (needs.OpenOut name) (Calls name) }
-    ensures orders { (name : LegName) (act : Act) → IsStepAt name.peer (needs.Order name act) (TakesOrder name act) }
+    ensures orders { (name : LegName) (command : Command MediaSpan) →
+        IsStepAt name.peer (needs.Order name command) (TakesOrder name command) }
     ensures ticks { (place : ℕ) → IsStepAt place (needs.Tick place) GoesOn }
     ensures looks { (old : Stored) (place number : ℕ) (peer : PeerView) → slice_get old.peers place ≡ Some peer →
         Makes (needs.Look place number) old old (replies.Look (option_map status_of (leg_at peer.legs number))) }

@@ -1,22 +1,21 @@
 //! The calls of a peer, as steps of the stored exchange. Each function makes one call and nothing else, so that its clauses
 //! describe that call. Moments are in milliseconds.
 ghost use Rattle.std.specs.Prelude.{◌≡◌, ◌≤◌, [], ◌∷◌, length};
-ghost use Rattle.call_control.specs.Act.{act_kind};
+ghost use Rattle.call_signals.specs.Order.{media_of};
 ghost use Rattle.call_control.specs.declared.need.Need.TheVariants as needs;
 ghost use Rattle.leg_machine.specs.OrderTable.{IsShortMedia};
 ghost use Rattle.leg_machine.specs.Seen.{kind_of};
 ghost use Rattle.peer_accounts.specs.HandedUp.{IsNothing};
 ghost use Rattle.peer_lock.specs.Openings.{IsOpening};
-ghost use Rattle.peer_lock.specs.Orders.{order_octets};
 ghost use Rattle.laws_of_calls.specs.PeerCalls.{HearsDatagram, HearsNewWithoutNumber, HearsNew, Calls, GoesOn, Retires};
 ghost use Rattle.laws_of_calls.specs.PeerCalls.{leases_in};
 ghost use Rattle.laws_of_calls.specs.StoredSteps.{TakesOrder, leases_after};
 
 use call_auth::Challenge;
 use call_book::{Lease, LegName};
-use call_control::{Act, Reply, StepReply};
+use call_control::{Reply, StepReply};
 use iax_frames::Full;
-use leg_machine::{Caller, Format, Order};
+use leg_machine::{Caller, Command, Format, MediaSpan, Order};
 use peer_lock::{LedgerSet, Onwards, Pass, PeerState};
 
 /// Gives a datagram of at most 2,048 octets to a peer. The signals handed up are written to the empty list. The answer has
@@ -107,20 +106,20 @@ pub fn call<J: LedgerSet>(
     }
 }
 
-/// Gives the order of an act to the leg of a name. Media is 1 to 1,380 octets, for which the pass has the credit. The
-/// answer has the refusals of `PeerState::order`. Only the contract uses the act.
+/// Gives the order of a command to the leg of a name. Media is 1 to 1,380 octets, for which the pass has the credit. The
+/// answer has the refusals of `PeerState::order`. Only the contract uses the command.
 pub fn order<J: LedgerSet>(
     peer: &mut PeerState<J>,
     pass: &mut Pass<J>,
     name: LegName,
-    _act: Act,
+    _command: Command<MediaSpan>,
     order: &Order,
     now: u64,
 ) -> Reply
-    requires kind { kind_of order.now ≡ act_kind _act }
+    requires kind { kind_of order.now ≡ kind_of _command }
     requires media { IsShortMedia order.now }
-    requires credit { order_octets order.now ≤ pass.old.octets }
-    ensures { TakesOrder name _act peer.old peer.new result }
+    requires credit { length (media_of order.now) ≤ pass.old.octets }
+    ensures { TakesOrder name _command peer.old peer.new result }
 {
     match peer.order(pass, name, order, now) {
         Ok(_) => Reply::Order(Ok(())),

@@ -21,8 +21,9 @@ use Rattle.leg_machine.specs.Working.{agreed}
 use Rattle.call_signals.specs.declared.failure.Failure.TheVariants as failures
 use Rattle.leg_machine.specs.declared.media.MediaSent.{MediaSent}
 use Rattle.leg_machine.specs.declared.media.MediaSent.TheVariants as media
-use Rattle.call_signals.specs.declared.order.Order.{Order}
-use Rattle.call_signals.specs.declared.order.Order.TheVariants.{Accept, Reject, Indicate, Answer, Dtmf, Media, Hangup, Doom, Paid}
+use Rattle.call_signals.specs.Order.{Order}
+use Rattle.call_signals.specs.declared.order.Command.TheVariants.{Accept, Reject, Indicate, Answer, Dtmf, Media, Hangup, Doom}
+use Rattle.call_signals.specs.declared.order.Command.TheVariants.{Paid}
 use Rattle.leg_machine.specs.declared.orders.Ordered.{Ordered}
 use Rattle.call_signals.specs.declared.reply.ReplyFrame.{ReplyFrame}
 use Rattle.call_signals.specs.declared.reply.ReplyFrame.TheVariants as replies

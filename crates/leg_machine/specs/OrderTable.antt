@@ -12,9 +12,9 @@ use Rattle.leg_machine.specs.Working.{sent, agreed}
 use Rattle.call_signals.specs.declared.cause.Cause.{Cause}
 use Rattle.leg_machine.specs.declared.media.MediaSent.{MediaSent}
 use Rattle.leg_machine.specs.declared.media.MediaSent.TheVariants.{Quelched, Voice, Mini}
-use Rattle.call_signals.specs.declared.order.Order.{Order}
-use Rattle.call_signals.specs.declared.order.Order.TheVariants.{Accept, Reject, Indicate, Answer, Dtmf, Media, Hangup, Doom}
-use Rattle.call_signals.specs.declared.order.Order.TheVariants.{Paid}
+use Rattle.call_signals.specs.Order.{Order}
+use Rattle.call_signals.specs.declared.order.Command.TheVariants.{Accept, Reject, Indicate, Answer, Dtmf, Media, Hangup, Doom}
+use Rattle.call_signals.specs.declared.order.Command.TheVariants.{Paid}
 use Rattle.call_signals.specs.declared.order.OrderError.{OrderError}
 use Rattle.call_signals.specs.declared.order.OrderError.TheVariants as errors
 use Rattle.leg_machine.specs.declared.orders.Ordered.{Ordered}

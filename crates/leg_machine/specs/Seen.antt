@@ -1,6 +1,6 @@
 -- The part of a leg that callers at once see: its stage, whether it is doomed and whether it owes. And the possible effect
 -- on it of a frame, an order, a tick and an opening ("IAX Frames", "Call Setup").
-pub use Rattle.call_signals.specs.Order.{kind_of}
+pub use Rattle.call_signals.specs.Order.{kind_of, Kind}
 use Rattle.std.specs.Prelude.{◌≡◌, ℕ, ◌||◌, ◌&&◌, not, ◌⊎◌, Bool, false, Option, None, Some, if◌then◌else◌}
 use Rattle.leg_machine.specs.Leg.{LegState}
 use Rattle.leg_machine.specs.OrderTable.{refuses_digits}
@@ -8,8 +8,7 @@ use Rattle.call_signals.specs.Stage.{is_over}
 use Rattle.call_signals.specs.declared.signal.Indication.{Indication}
 use Rattle.call_signals.specs.declared.openings.Opening.{Opening}
 use Rattle.call_signals.specs.declared.openings.Opening.TheVariants.{Refused, Challenges, Offers}
-use Rattle.call_signals.specs.declared.order.OrderKind.{OrderKind}
-use Rattle.call_signals.specs.declared.order.OrderKind.TheVariants as kinds
+use Rattle.call_signals.specs.declared.order.Command.TheVariants as commands
 use Rattle.call_signals.specs.declared.signal.MediaSpan.{MediaSpan}
 use Rattle.call_signals.specs.declared.signal.Signal.{Signal}
 use Rattle.call_signals.specs.declared.signal.Signal.TheVariants as signals
@@ -102,35 +101,35 @@ IsSeenOpening new signal =
 -- ---- orders
 
 -- the stage after an order; none: the stage is a wrong one
-abbrev pub stage_after : OrderKind → Stage → Option Stage
-stage_after (kinds.Accept format) stages.Offered = Some stages.Linked
-stage_after (kinds.Reject cause) stages.Offered = Some stages.Closing
-stage_after (kinds.Indicate indication) stages.Linked = Some stages.Linked
-stage_after kinds.Answer stages.Linked = Some stages.Up
-stage_after (kinds.Dtmf digit) stages.Linked = Some stages.Linked
-stage_after (kinds.Dtmf digit) stages.Up = Some stages.Up
-stage_after kinds.Media stages.Linked = Some stages.Linked
-stage_after kinds.Media stages.Up = Some stages.Up
-stage_after (kinds.Hangup cause) stages.Closing = None
-stage_after (kinds.Hangup cause) stages.Ended = None
-stage_after (kinds.Hangup cause) stage = Some stages.Closing
-stage_after (kinds.Doom cause) stage = Some stage
-stage_after kinds.Paid stage = Some stage
+abbrev pub stage_after : Kind → Stage → Option Stage
+stage_after (commands.Accept format) stages.Offered = Some stages.Linked
+stage_after (commands.Reject cause) stages.Offered = Some stages.Closing
+stage_after (commands.Indicate indication) stages.Linked = Some stages.Linked
+stage_after commands.Answer stages.Linked = Some stages.Up
+stage_after (commands.Dtmf digit) stages.Linked = Some stages.Linked
+stage_after (commands.Dtmf digit) stages.Up = Some stages.Up
+stage_after (commands.Media _) stages.Linked = Some stages.Linked
+stage_after (commands.Media _) stages.Up = Some stages.Up
+stage_after (commands.Hangup cause) stages.Closing = None
+stage_after (commands.Hangup cause) stages.Ended = None
+stage_after (commands.Hangup cause) stage = Some stages.Closing
+stage_after (commands.Doom cause) stage = Some stage
+stage_after commands.Paid stage = Some stage
 stage_after kind stage = None
 
 -- the stage of this leg after an order; none: the stage is a wrong one, or the leg is doomed and refuses the digit
-abbrev pub stage_ordered : LegState → OrderKind → Option Stage
-stage_ordered leg (kinds.Dtmf digit) = if refuses_digits leg then None else stage_after (kinds.Dtmf digit) leg.stage
+abbrev pub stage_ordered : LegState → Kind → Option Stage
+stage_ordered leg (commands.Dtmf digit) = if refuses_digits leg then None else stage_after (commands.Dtmf digit) leg.stage
 stage_ordered leg kind = stage_after kind leg.stage
 
 -- a leg that is carried to this stage by an order
-abbrev pub ordered : OrderKind → SeenLeg → Stage → SeenLeg
-ordered (kinds.Doom cause) leg stage = record leg { doomed = leg.doomed || not (is_over leg.stage) }
-ordered kinds.Paid leg stage = record leg { owes = leg.owes && not (is_over leg.stage) }
+abbrev pub ordered : Kind → SeenLeg → Stage → SeenLeg
+ordered (commands.Doom cause) leg stage = record leg { doomed = leg.doomed || not (is_over leg.stage) }
+ordered commands.Paid leg stage = record leg { owes = leg.owes && not (is_over leg.stage) }
 ordered kind leg stage = moved leg stage
 
 -- the leg after an order that was carried out
-abbrev pub IsSeenOrder : OrderKind → SeenLeg → SeenLeg → Type 0
+abbrev pub IsSeenOrder : Kind → SeenLeg → SeenLeg → Type 0
 IsSeenOrder kind old new = (stage : Stage) × (stage_after kind old.stage ≡ Some stage) × (new ≡ ordered kind old stage)
 
 -- ---- ticks

@@ -27,7 +27,7 @@ ghost use Rattle.call_signals.specs.declared.format.Format.{Format};
 ghost use Rattle.call_signals.specs.declared.cause.Cause.TheVariants.{CallRejected};
 ghost use Rattle.call_signals.specs.declared.message.Message.{Message};
 ghost use Rattle.call_signals.specs.declared.message.Message.TheVariants.{AuthReq};
-ghost use Rattle.call_signals.specs.declared.order.Order.{Order};
+ghost use Rattle.call_signals.specs.Order.{Order};
 ghost use Rattle.call_signals.specs.declared.order.OrderError.TheVariants.{WrongStage};
 ghost use Rattle.call_signals.specs.declared.rules.PeerRules.{PeerRules};
 ghost use Rattle.call_signals.specs.declared.signal.MediaSpan.{MediaSpan};

@@ -15,7 +15,7 @@ ghost use Rattle.leg_machine.specs.Steps.{full_step, heard_of};
 ghost use Rattle.leg_machine.specs.Ticks.{tick_step};
 ghost use Rattle.leg_machine.specs.Tie.{TakesTurn, SendsAtMostOne, TakesFirstTurn, HasSentAtMostOne, IsSending, IsSendingOrMini};
 ghost use Rattle.leg_machine.specs.Tie.{IsLegOf};
-ghost use Rattle.call_signals.specs.declared.order.OrderKind.TheVariants as kinds;
+ghost use Rattle.call_signals.specs.declared.order.Command.TheVariants.{Media};
 ghost use Rattle.memory_requests.specs.Refused.{WasRefused};
 
 use crate::machine::Machine;
@@ -193,12 +193,12 @@ impl Leg {
             map spelling (media_frames (media_sent self.old.state now) self.old.state media.now now)) }
         ensures extends_history { OnOk result (SendsAtMostOne self.old.state self.new.state) }
         ensures sendings { OnOk result (All (IsSending self.new.state) replies.new) }
-        ensures refines_abstract_leg { OnOk result (IsSeenOrder kinds.Media (seen self.old.state) (seen self.new.state)) }
+        ensures refines_abstract_leg { OnOk result (IsSeenOrder (Media tt) (seen self.old.state) (seen self.new.state)) }
         ensures unrefused { OnOk result (media_refused self.old.state now ≡ None) }
         ensures refused { IfErr result (IsRefusal (media_refused self.old.state now)) }
         ensures memory { result ≡ Err OrderError.Memory → is_voice (media_sent self.old.state now) ≡ true }
         ensures spare { result ≡ Err OrderError.Memory → self.old.spare ≡ 0 }
-        ensures wrong_stage { (result ≡ Err OrderError.WrongStage) ↔ (stage_after kinds.Media self.old.state.stage ≡ None) }
+        ensures wrong_stage { (result ≡ Err OrderError.WrongStage) ↔ (stage_after (Media tt) self.old.state.stage ≡ None) }
         ensures err { OnErr result (self.new ≡ self.old) }
         ensures none_sent { OnErr result (replies.new ≡ replies.old) }
         ensures capacity { capacity_of self.old ≤ capacity_of self.new }

@@ -17,9 +17,9 @@ mod ticking;
 mod working_order;
 
 pub use call_signals::{
-    Caller, Cause, Credential, Digit, ElementText, Failure, Format, Formats, Heard, Indication,
-    Judged, MediaIn, MediaSpan, Message, Moments, Onward, Order, OrderError, OrderKind, Outcome,
-    PeerRules, Replies, Signal, Stage, StepError, TickOutcome,
+    Caller, Cause, Command, Credential, Digit, ElementText, Failure, Format, Formats, Heard,
+    Indication, Judged, MediaIn, MediaSpan, Message, Moments, Onward, Order, OrderError, Outcome,
+    PeerRules, Replies, Signal, Stage, StepError, TickOutcome, order_of,
 };
 pub use leg::Leg;
 pub use media::MediaSent;

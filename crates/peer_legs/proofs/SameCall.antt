@@ -30,8 +30,8 @@ use Rattle.call_signals.specs.declared.effects.Mark.TheVariants.{Nothing, Quelch
 use Rattle.call_signals.specs.declared.message.Message.{Message}
 use Rattle.leg_machine.specs.declared.media.MediaSent.{MediaSent}
 use Rattle.leg_machine.specs.declared.media.MediaSent.TheVariants.{Quelched, Voice, Mini}
-use Rattle.call_signals.specs.declared.order.Order.{Order}
-use Rattle.call_signals.specs.declared.order.Order.TheVariants as orders
+use Rattle.call_signals.specs.Order.{Order}
+use Rattle.call_signals.specs.declared.order.Command.TheVariants as commands
 use Rattle.leg_machine.specs.declared.orders.Ordered.{Ordered}
 use Rattle.call_signals.specs.declared.stage.Stage.TheVariants.{Ended}
 
@@ -219,8 +219,8 @@ same_media Voice leg media now = record {
 same_media (Mini timestamp) leg media now = same leg
 
 pub same_order : (leg : LegState) (order : Order) (now : ℕ) → IsSameCall leg (order_carried leg order now).leg
-same_order leg (orders.Media media) now = same_media (media_sent leg now) leg media.now now
-same_order leg (orders.Doom cause) now = record {
+same_order leg (commands.Media media) now = same_media (media_sent leg now) leg media.now now
+same_order leg (commands.Doom cause) now = record {
   number = refl;
   remote = refl;
   ruled = record {
@@ -229,7 +229,7 @@ same_order leg (orders.Doom cause) now = record {
     limit = refl;
   };
 }
-same_order leg orders.Paid now = record {
+same_order leg commands.Paid now = record {
   number = refl;
   remote = refl;
   ruled = record {
@@ -238,12 +238,12 @@ same_order leg orders.Paid now = record {
     limit = refl;
   };
 }
-same_order leg (orders.Accept format) now = same_row leg (order_row leg (orders.Accept format)) now
-same_order leg (orders.Reject cause) now = same_row leg (order_row leg (orders.Reject cause)) now
-same_order leg (orders.Indicate i) now = same_row leg (order_row leg (orders.Indicate i)) now
-same_order leg orders.Answer now = same_row leg (order_row leg orders.Answer) now
-same_order leg (orders.Dtmf digit) now = same_row leg (order_row leg (orders.Dtmf digit)) now
-same_order leg (orders.Hangup cause) now = same_row leg (order_row leg (orders.Hangup cause)) now
+same_order leg (commands.Accept format) now = same_row leg (order_row leg (commands.Accept format)) now
+same_order leg (commands.Reject cause) now = same_row leg (order_row leg (commands.Reject cause)) now
+same_order leg (commands.Indicate i) now = same_row leg (order_row leg (commands.Indicate i)) now
+same_order leg commands.Answer now = same_row leg (order_row leg commands.Answer) now
+same_order leg (commands.Dtmf digit) now = same_row leg (order_row leg (commands.Dtmf digit)) now
+same_order leg (commands.Hangup cause) now = same_row leg (order_row leg (commands.Hangup cause)) now
 
 -- ---- a tick
 

@@ -4,10 +4,8 @@ use Rattle.std.proofs.Common.{◌≡◌, ◌≤◌, ℕ, ◌+◌, ◌&&◌, Bool
 use Rattle.std.proofs.Common.{refl, ◌∙◌, arith}
 use Rattle.std.proofs.lemmas.List.{drop_all, length-append, length-take}
 use Rattle.call_book.specs.declared.leg_name.LegName.{LegName}
-use Rattle.call_signals.specs.Order.{kind_of}
-use Rattle.call_signals.specs.declared.order.Order.{Order}
-use Rattle.call_signals.specs.declared.order.Order.TheVariants as orders
-use Rattle.call_signals.specs.declared.order.OrderKind.TheVariants as kinds
+use Rattle.call_signals.specs.Order.{kind_of, Order}
+use Rattle.call_signals.specs.declared.order.Command.TheVariants as commands
 use Rattle.iax_frames.specs.FullFrame.{spelling}
 use Rattle.iax_frames.specs.MiniFrame.{mini_spelling}
 use Rattle.leg_machine.specs.Media.{media_sent, media_frames}
@@ -128,21 +126,21 @@ media_adds (sent.Mini timestamp) peer named media now =
     then_adds 0 1 peer with (short_media with named.name.number timestamp media now)
     (record { most = added.most; kept = added.kept }) (short_adds with named.name.number timestamp media now)
 
-at_adds : (peer : PeerView) (named : Option NamedLeg) (order : Order) (now : ℕ) → kind_of order ≡ kinds.Media
+at_adds : (peer : PeerView) (named : Option NamedLeg) (order : Order) (now : ℕ) → kind_of order ≡ commands.Media tt
     → Adds 1 peer (ordered_if peer named order now)
 at_adds peer None order now is = record { most = omega arith; kept = λ _. refl }
-at_adds peer (Some named) (orders.Media media) now is =
+at_adds peer (Some named) (commands.Media media) now is =
     let added = media_adds (media_sent named.leg now) peer named media.now now in
     record { most = added.most; kept = added.kept }
-at_adds peer (Some named) (orders.Accept format) now is = cc
-at_adds peer (Some named) (orders.Reject cause) now is = cc
-at_adds peer (Some named) (orders.Indicate indication) now is = cc
-at_adds peer (Some named) orders.Answer now is = cc
-at_adds peer (Some named) (orders.Dtmf digit) now is = cc
-at_adds peer (Some named) (orders.Hangup cause) now is = cc
-at_adds peer (Some named) (orders.Doom cause) now is = cc
-at_adds peer (Some named) orders.Paid now is = cc
+at_adds peer (Some named) (commands.Accept format) now is = cc
+at_adds peer (Some named) (commands.Reject cause) now is = cc
+at_adds peer (Some named) (commands.Indicate indication) now is = cc
+at_adds peer (Some named) commands.Answer now is = cc
+at_adds peer (Some named) (commands.Dtmf digit) now is = cc
+at_adds peer (Some named) (commands.Hangup cause) now is = cc
+at_adds peer (Some named) (commands.Doom cause) now is = cc
+at_adds peer (Some named) commands.Paid now is = cc
 
-pub media_order_adds : (peer : PeerView) (name : LegName) (order : Order) (now : ℕ) → kind_of order ≡ kinds.Media
+pub media_order_adds : (peer : PeerView) (name : LegName) (order : Order) (now : ℕ) → kind_of order ≡ commands.Media tt
     → Adds 1 peer (ordered_step peer name order now)
 media_order_adds peer name order now is = at_adds peer (leg_named peer.legs name) order now is

@@ -4,8 +4,8 @@ use Rattle.std.proofs.Common.{◌≡◌, ◌≤◌, ℕ, ◌+◌, ◌&&◌, Bool
 use Rattle.std.proofs.Common.{refl, ◌∙◌, arith}
 use Rattle.std.proofs.lemmas.Bool.{cases_Bool, ltb-true}
 use Rattle.call_book.specs.declared.leg_name.LegName.{LegName}
-use Rattle.call_signals.specs.declared.order.Order.{Order}
-use Rattle.call_signals.specs.declared.order.Order.TheVariants as orders
+use Rattle.call_signals.specs.Order.{media_of, Order}
+use Rattle.call_signals.specs.declared.order.Command.TheVariants as commands
 use Rattle.call_signals.specs.declared.rules.PeerRules.{PeerRules}
 use Rattle.iax_frames.specs.MiniFrame.{mini_spelling}
 use Rattle.leg_machine.specs.Media.{media_sent}
@@ -13,7 +13,7 @@ use Rattle.leg_machine.specs.declared.media.MediaSent.{MediaSent}
 use Rattle.leg_machine.specs.declared.media.MediaSent.TheVariants as sent
 use Rattle.peer_accounts.specs.declared.account.Carried.TheVariants.{Packed, Queued, Dropped}
 use Rattle.peer_legs.specs.Legs.{NamedLeg, leg_named}
-use Rattle.peer_lock.specs.Orders.{order_octets, ordered_at, ordered_if, ordered_step, counted_media, short_media, waiting_media}
+use Rattle.peer_lock.specs.Orders.{ordered_at, ordered_if, ordered_step, counted_media, short_media, waiting_media}
 use Rattle.peer_lock.specs.Orders.{queued_media, carried_media, with_entry, with_media}
 use Rattle.peer_lock.specs.Peer.{PeerView, flushed_if, with_datagram}
 use Rattle.peer_lock.specs.Trunks.{waits, is_full_for, fills_frame, begins_next, queue_after}
@@ -72,21 +72,22 @@ media_kept (sent.Mini timestamp) peer named media now waiting short other =
     short_kept (with_media (sent.Mini timestamp) peer named media now) named.name.number timestamp media now waiting short
 
 ordered_kept : (peer : PeerView) (named : NamedLeg) (order : Order) (now : ℕ) → waits peer.rules ≡ true
-    → order_octets order ≤ 1380 → media_sent named.leg now ≢ sent.Quelched
+    → length (media_of order) ≤ 1380 → media_sent named.leg now ≢ sent.Quelched
     → (ordered_at peer named order now).accounts.dropped ≡ peer.accounts.dropped
-ordered_kept peer named (orders.Media media) now waiting short other = media_kept (media_sent named.leg now) peer named media.now
+ordered_kept peer named (commands.Media media) now waiting short other =
+    media_kept (media_sent named.leg now) peer named media.now
     now waiting short other
-ordered_kept peer named (orders.Accept format) now waiting short other = refl
-ordered_kept peer named (orders.Reject cause) now waiting short other = refl
-ordered_kept peer named (orders.Indicate indication) now waiting short other = refl
-ordered_kept peer named orders.Answer now waiting short other = refl
-ordered_kept peer named (orders.Dtmf digit) now waiting short other = refl
-ordered_kept peer named (orders.Hangup cause) now waiting short other = refl
-ordered_kept peer named (orders.Doom cause) now waiting short other = refl
-ordered_kept peer named orders.Paid now waiting short other = refl
+ordered_kept peer named (commands.Accept format) now waiting short other = refl
+ordered_kept peer named (commands.Reject cause) now waiting short other = refl
+ordered_kept peer named (commands.Indicate indication) now waiting short other = refl
+ordered_kept peer named commands.Answer now waiting short other = refl
+ordered_kept peer named (commands.Dtmf digit) now waiting short other = refl
+ordered_kept peer named (commands.Hangup cause) now waiting short other = refl
+ordered_kept peer named (commands.Doom cause) now waiting short other = refl
+ordered_kept peer named commands.Paid now waiting short other = refl
 
 pub none_dropped : (peer : PeerView) (name : LegName) (order : Order) (now : ℕ) (named : NamedLeg) → waits peer.rules ≡ true
-    → order_octets order ≤ 1380
+    → length (media_of order) ≤ 1380
     → leg_named peer.legs name ≡ Some named → media_sent named.leg now ≢ sent.Quelched
     → (ordered_step peer name order now).accounts.dropped ≡ peer.accounts.dropped
 none_dropped peer name order now named waiting short is other =

@@ -5,8 +5,8 @@ use Rattle.std.proofs.Common.{Some, sym, subst, refl, ◌∙◌, arith}
 use Rattle.call_book.specs.declared.leg_name.LegName.{LegName}
 use Rattle.call_signals.specs.declared.format.Format.{Format}
 use Rattle.call_signals.specs.declared.message.Message.TheVariants.{New}
-use Rattle.call_signals.specs.declared.order.Order.{Order}
-use Rattle.call_signals.specs.declared.order.Order.TheVariants as orders
+use Rattle.call_signals.specs.Order.{Order}
+use Rattle.call_signals.specs.declared.order.Command.TheVariants as commands
 use Rattle.iax_frames.specs.FullFrame.{FullFrame, spelling}
 use Rattle.iax_frames.specs.declared.datagram.Datagram.{Datagram}
 use Rattle.iax_frames.specs.declared.datagram.Datagram.TheVariants.{Full, Mini, Video, Trunk}
@@ -145,19 +145,23 @@ row_carries peer named (Some row) now =
 
 at_carries : (peer : PeerView) (named : NamedLeg) (order : Order) (now : ℕ) → named.leg.number ≡ named.name.number
     → CarriesByOrder order named.name.number peer (ordered_at peer named order now)
-at_carries peer named (orders.Media media) now number =
+at_carries peer named (commands.Media media) now number =
     let carried : PeerView = carries_media (media_sent named.leg now) peer named media.now now in
     carries_order_too named.name.number media.now peer carried carried.legs carried.pokes (stepped carried.accounts) refl
     (media_goes (media_sent named.leg now) peer named media.now now number)
-at_carries peer named (orders.Doom cause) now number =
-    with_order_carries peer named (order_carried named.leg (orders.Doom cause) now).leg [] tt
-at_carries peer named orders.Paid now number = with_order_carries peer named (order_carried named.leg orders.Paid now).leg [] tt
-at_carries peer named (orders.Accept format) now number = row_carries peer named (order_row named.leg (orders.Accept format)) now
-at_carries peer named (orders.Reject cause) now number = row_carries peer named (order_row named.leg (orders.Reject cause)) now
-at_carries peer named (orders.Indicate i) now number = row_carries peer named (order_row named.leg (orders.Indicate i)) now
-at_carries peer named orders.Answer now number = row_carries peer named (order_row named.leg orders.Answer) now
-at_carries peer named (orders.Dtmf digit) now number = row_carries peer named (order_row named.leg (orders.Dtmf digit)) now
-at_carries peer named (orders.Hangup cause) now number = row_carries peer named (order_row named.leg (orders.Hangup cause)) now
+at_carries peer named (commands.Doom cause) now number =
+    with_order_carries peer named (order_carried named.leg (commands.Doom cause) now).leg [] tt
+at_carries peer named commands.Paid now number =
+    with_order_carries peer named (order_carried named.leg commands.Paid now).leg [] tt
+at_carries peer named (commands.Accept format) now number =
+    row_carries peer named (order_row named.leg (commands.Accept format)) now
+at_carries peer named (commands.Reject cause) now number =
+    row_carries peer named (order_row named.leg (commands.Reject cause)) now
+at_carries peer named (commands.Indicate i) now number = row_carries peer named (order_row named.leg (commands.Indicate i)) now
+at_carries peer named commands.Answer now number = row_carries peer named (order_row named.leg commands.Answer) now
+at_carries peer named (commands.Dtmf digit) now number = row_carries peer named (order_row named.leg (commands.Dtmf digit)) now
+at_carries peer named (commands.Hangup cause) now number =
+    row_carries peer named (order_row named.leg (commands.Hangup cause)) now
 
 pub order_carries : (peer : PeerView) (name : LegName) (named : NamedLeg) (order : Order) (now : ℕ) → AreLegs peer.legs
     → leg_named peer.legs name ≡ Some named → CarriesByOrder order name.number peer (ordered_step peer name order now)

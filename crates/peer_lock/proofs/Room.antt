@@ -5,9 +5,8 @@ use Rattle.std.proofs.Common.{Some, length, ap, sym, subst, refl, ◌∙◌, ari
 use Rattle.std.proofs.lemmas.Bool.{cases_Bool, ltb-true, leb-true}
 use Rattle.std.proofs.lemmas.List.{length-append}
 use Rattle.call_book.specs.declared.leg_name.LegName.{LegName}
-use Rattle.call_signals.specs.Order.{kind_of}
-use Rattle.call_signals.specs.declared.order.Order.{Order}
-use Rattle.call_signals.specs.declared.order.Order.TheVariants as orders
+use Rattle.call_signals.specs.Order.{kind_of, media_of, Order}
+use Rattle.call_signals.specs.declared.order.Command.TheVariants as commands
 use Rattle.iax_frames.specs.FullFrame.{spelling}
 use Rattle.iax_frames.specs.MiniFrame.{mini_spelling}
 use Rattle.leg_machine.specs.Leg.{LegState}
@@ -21,7 +20,7 @@ use Rattle.peer_accounts.specs.Accounts.{Accounts, stepped}
 use Rattle.peer_accounts.specs.declared.account.Carried.TheVariants.{Packed, Queued as QueuedMedia, Dropped}
 use Rattle.peer_legs.specs.Legs.{NamedLeg, PeerLegs, leg_named, with_leg}
 use Rattle.peer_lock.specs.Loads.{Load, Puts, QueueHasRoom, dropped_for_room, load_of, no_load, order_load, plus}
-use Rattle.peer_lock.specs.Orders.{order_octets, ordered_if, ordered_at, ordered_step, carries_media, carried_media, short_media}
+use Rattle.peer_lock.specs.Orders.{ordered_if, ordered_at, ordered_step, carries_media, carried_media, short_media}
 use Rattle.peer_lock.specs.Orders.{waiting_media, with_entry, with_media, with_order}
 use Rattle.peer_lock.specs.Peer.{PeerView, flushed_if, with_datagram, with_sent}
 use Rattle.peer_lock.specs.Trunks.{has_any, waits, goes_ahead, begins_next, is_full_for}
@@ -298,29 +297,29 @@ by_row peer named order now =
     (row_few named.leg (order_row named.leg order) now)
 
 order_puts : (peer : PeerView) (named : NamedLeg) (order : Order) (now : ℕ) → IsShortMedia order
-    → Puts (order_load (kind_of order) (order_octets order)) peer (ordered_at peer named order now)
-order_puts peer named (orders.Media media) now short =
+    → Puts (order_load (kind_of order) (length (media_of order))) peer (ordered_at peer named order now)
+order_puts peer named (commands.Media media) now short =
     let carried : PeerView = carries_media (media_sent named.leg now) peer named media.now now in
     let puts = both (media_load (length media.now)) peer carried (media_adds (media_sent named.leg now) peer named media.now now)
     (carries_queues (media_sent named.leg now) peer named media.now now short.1) in
     puts_too (media_load (length media.now)) peer carried carried.legs (stepped carried.accounts) refl puts
-order_puts peer named (orders.Doom cause) now short = carried_puts no_load peer named (order_carried named.leg (orders.Doom cause)
-    now) (omega arith)
-order_puts peer named orders.Paid now short = carried_puts no_load peer named (order_carried named.leg orders.Paid now)
+order_puts peer named (commands.Doom cause) now short = carried_puts no_load peer named
+    (order_carried named.leg (commands.Doom cause) now) (omega arith)
+order_puts peer named commands.Paid now short = carried_puts no_load peer named (order_carried named.leg commands.Paid now)
     (omega arith)
-order_puts peer named (orders.Accept format) now short = by_row peer named (orders.Accept format) now
-order_puts peer named (orders.Reject cause) now short = by_row peer named (orders.Reject cause) now
-order_puts peer named (orders.Indicate indication) now short = by_row peer named (orders.Indicate indication) now
-order_puts peer named orders.Answer now short = by_row peer named orders.Answer now
-order_puts peer named (orders.Dtmf digit) now short = by_row peer named (orders.Dtmf digit) now
-order_puts peer named (orders.Hangup cause) now short = by_row peer named (orders.Hangup cause) now
+order_puts peer named (commands.Accept format) now short = by_row peer named (commands.Accept format) now
+order_puts peer named (commands.Reject cause) now short = by_row peer named (commands.Reject cause) now
+order_puts peer named (commands.Indicate indication) now short = by_row peer named (commands.Indicate indication) now
+order_puts peer named commands.Answer now short = by_row peer named commands.Answer now
+order_puts peer named (commands.Dtmf digit) now short = by_row peer named (commands.Dtmf digit) now
+order_puts peer named (commands.Hangup cause) now short = by_row peer named (commands.Hangup cause) now
 
 pub ordered_puts : (peer : PeerView) (name : LegName) (order : Order) (now : ℕ) → IsShortMedia order
-    → Puts (order_load (kind_of order) (order_octets order)) peer (ordered_step peer name order now)
+    → Puts (order_load (kind_of order) (length (media_of order))) peer (ordered_step peer name order now)
 ordered_puts peer name order now short = at_leg (leg_named peer.legs name)
   where
-    at_leg : (named : Option NamedLeg) → Puts (order_load (kind_of order) (order_octets order)) peer
+    at_leg : (named : Option NamedLeg) → Puts (order_load (kind_of order) (length (media_of order))) peer
         (ordered_if peer named order now)
-    at_leg None = puts_less no_load (order_load (kind_of order) (order_octets order)) peer peer (omega arith) (omega arith)
+    at_leg None = puts_less no_load (order_load (kind_of order) (length (media_of order))) peer peer (omega arith) (omega arith)
         (none_put peer)
     at_leg (Some named) = order_puts peer named order now short

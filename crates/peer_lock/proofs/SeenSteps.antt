@@ -16,10 +16,8 @@ use Rattle.leg_machine.specs.Ticks.{tick_step}
 use Rattle.call_signals.specs.declared.format.Format.{Format}
 use Rattle.leg_machine.specs.declared.media.MediaSent.{MediaSent}
 use Rattle.leg_machine.specs.declared.media.MediaSent.TheVariants as sent
-use Rattle.call_signals.specs.declared.order.Order.{Order}
-use Rattle.call_signals.specs.declared.order.Order.TheVariants as orders
-use Rattle.call_signals.specs.declared.order.OrderKind.{OrderKind}
-use Rattle.call_signals.specs.declared.order.OrderKind.TheVariants as kinds
+use Rattle.call_signals.specs.Order.{Kind, Order}
+use Rattle.call_signals.specs.declared.order.Command.TheVariants as commands
 use Rattle.call_signals.specs.declared.order.OrderError.{OrderError as LegError}
 use Rattle.call_signals.specs.declared.order.OrderError.TheVariants as leg_errors
 use Rattle.call_signals.specs.declared.rules.PeerRules.{PeerRules}
@@ -148,17 +146,17 @@ media_legs (sent.Mini timestamp) peer number media now = short_legs peer number 
 
 pub ordered_legs : (peer : PeerView) (named : NamedLeg) (order : Order) (now : ℕ) → (ordered_at peer named order now).legs
     ≡ with_leg peer.legs named.name (order_carried named.leg order now).leg
-ordered_legs peer named (orders.Media media) now =
+ordered_legs peer named (commands.Media media) now =
     media_legs (media_sent named.leg now) (with_media (media_sent named.leg now) peer named media.now now) named.name.number
     media.now now
-ordered_legs peer named (orders.Accept format) now = refl
-ordered_legs peer named (orders.Reject cause) now = refl
-ordered_legs peer named (orders.Indicate indication) now = refl
-ordered_legs peer named orders.Answer now = refl
-ordered_legs peer named (orders.Dtmf digit) now = refl
-ordered_legs peer named (orders.Hangup cause) now = refl
-ordered_legs peer named (orders.Doom cause) now = refl
-ordered_legs peer named orders.Paid now = refl
+ordered_legs peer named (commands.Accept format) now = refl
+ordered_legs peer named (commands.Reject cause) now = refl
+ordered_legs peer named (commands.Indicate indication) now = refl
+ordered_legs peer named commands.Answer now = refl
+ordered_legs peer named (commands.Dtmf digit) now = refl
+ordered_legs peer named (commands.Hangup cause) now = refl
+ordered_legs peer named (commands.Doom cause) now = refl
+ordered_legs peer named commands.Paid now = refl
 
 none_due : (due : Option LegError) → from_leg_due due ≡ None → due ≡ None
 none_due None e = refl
@@ -218,24 +216,24 @@ gone legs name none before = gone_at (leg_at legs name.number) name before none
         none_named (Some named) name named none refl (ap (λ (n : SeenNamed). n.name) same)
 
 -- an order that a leg may refuse for want of memory it may refuse for want of room
-alike : (kind : OrderKind) → (refuses_order kind errors.WindowFull ≡ refuses_order kind errors.Memory) ×
+alike : (kind : Kind) → (refuses_order kind errors.WindowFull ≡ refuses_order kind errors.Memory) ×
     (refuses_order kind errors.RecordFull ≡ refuses_order kind errors.Memory)
-alike (kinds.Doom cause) = (refl, refl)
-alike kinds.Paid = (refl, refl)
+alike (commands.Doom cause) = (refl, refl)
+alike commands.Paid = (refl, refl)
 alike kind = (refl, refl)
 
 -- an order that a leg may refuse
 refusable : (leg : LegState) (order : Order) (now : ℕ) (due : LegError) → order_refused leg order now ≡ Some due
     → refuses_order (kind_of order) errors.Memory ≡ true
-refusable leg (orders.Doom cause) now due is = cc
-refusable leg orders.Paid now due is = cc
+refusable leg (commands.Doom cause) now due is = cc
+refusable leg commands.Paid now due is = cc
 refusable leg order now due is = refl
 
 -- .. or for which it may need memory
 unsure : (leg : LegState) (order : Order) (now : ℕ) → wants_memory leg order now ≡ true
     → refuses_order (kind_of order) errors.Memory ≡ true
-unsure leg (orders.Doom cause) now wants = cc
-unsure leg orders.Paid now wants = cc
+unsure leg (commands.Doom cause) now wants = cc
+unsure leg commands.Paid now wants = cc
 unsure leg order now wants = refl
 
 right_stage : (there : Option Stage) → there ≢ None → is_some there ≡ true
@@ -243,18 +241,18 @@ right_stage None some = absurd (some refl)
 right_stage (Some stage) some = refl
 
 -- an order without a next stage from a stage changes no leg of that stage
-none_ordered : (leg : LegState) (kind : OrderKind) → stage_after kind leg.stage ≡ None → stage_ordered leg kind ≡ None
-none_ordered leg (kinds.Dtmf digit) none = either_way (refuses_digits leg)
+none_ordered : (leg : LegState) (kind : Kind) → stage_after kind leg.stage ≡ None → stage_ordered leg kind ≡ None
+none_ordered leg (commands.Dtmf digit) none = either_way (refuses_digits leg)
   where
-    either_way : (b : Bool) → cond b None (stage_after (kinds.Dtmf digit) leg.stage) ≡ None
+    either_way : (b : Bool) → cond b None (stage_after (commands.Dtmf digit) leg.stage) ≡ None
     either_way true = refl
     either_way false = none
 none_ordered leg kind none = none
 
 -- an order that a leg of the right stage ignores is a digit
-digit_refused : (leg : LegState) (kind : OrderKind) → stage_ordered leg kind ≡ None → is_some (stage_after kind leg.stage) ≡ true
+digit_refused : (leg : LegState) (kind : Kind) → stage_ordered leg kind ≡ None → is_some (stage_after kind leg.stage) ≡ true
     → refuses_order kind errors.WrongStage ≡ true
-digit_refused leg (kinds.Dtmf digit) none right = refl
+digit_refused leg (commands.Dtmf digit) none right = refl
 digit_refused leg kind none right =
     let never : is_some (stage_after kind leg.stage) ≡ false = ap is_some none in cc
 

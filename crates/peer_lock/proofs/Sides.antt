@@ -5,8 +5,8 @@ use Rattle.std.proofs.Common.{refl, ap, sym, subst, ◌∙◌, arith}
 use Rattle.std.proofs.lemmas.Bool.{cases_Bool}
 use Rattle.call_book.specs.declared.leg_name.LegName.{LegName}
 use Rattle.call_signals.specs.declared.format.Format.{Format}
-use Rattle.call_signals.specs.declared.order.Order.{Order}
-use Rattle.call_signals.specs.declared.order.Order.TheVariants as orders
+use Rattle.call_signals.specs.Order.{Order}
+use Rattle.call_signals.specs.declared.order.Command.TheVariants as commands
 use Rattle.call_signals.specs.declared.rules.PeerRules.{PeerRules}
 use Rattle.iax_frames.specs.FullFrame.{FullFrame, spelling}
 use Rattle.iax_frames.specs.MiniFrame.{mini_spelling}
@@ -152,15 +152,15 @@ media_puts (sent.Mini timestamp) peer named media now same = short_puts peer nam
 
 ordered_puts : (peer : PeerView) (named : NamedLeg) (order : Order) (now : ℕ) → named.name.number ≡ named.leg.number
     → Puts peer (ordered_at peer named order now).outbox (order_carried named.leg order now).datagrams
-ordered_puts peer named (orders.Media media) now same = media_puts (media_sent named.leg now) peer named media.now now same
-ordered_puts peer named (orders.Accept format) now same = sent_puts peer named.name.number _
-ordered_puts peer named (orders.Reject cause) now same = sent_puts peer named.name.number _
-ordered_puts peer named (orders.Indicate indication) now same = sent_puts peer named.name.number _
-ordered_puts peer named orders.Answer now same = sent_puts peer named.name.number _
-ordered_puts peer named (orders.Dtmf digit) now same = sent_puts peer named.name.number _
-ordered_puts peer named (orders.Hangup cause) now same = sent_puts peer named.name.number _
-ordered_puts peer named (orders.Doom cause) now same = sent_puts peer named.name.number _
-ordered_puts peer named orders.Paid now same = sent_puts peer named.name.number _
+ordered_puts peer named (commands.Media media) now same = media_puts (media_sent named.leg now) peer named media.now now same
+ordered_puts peer named (commands.Accept format) now same = sent_puts peer named.name.number _
+ordered_puts peer named (commands.Reject cause) now same = sent_puts peer named.name.number _
+ordered_puts peer named (commands.Indicate indication) now same = sent_puts peer named.name.number _
+ordered_puts peer named commands.Answer now same = sent_puts peer named.name.number _
+ordered_puts peer named (commands.Dtmf digit) now same = sent_puts peer named.name.number _
+ordered_puts peer named (commands.Hangup cause) now same = sent_puts peer named.name.number _
+ordered_puts peer named (commands.Doom cause) now same = sent_puts peer named.name.number _
+ordered_puts peer named commands.Paid now same = sent_puts peer named.name.number _
 
 all_either : (leg : LegState) (datagrams sent : List (List ℕ)) → (datagrams ≡ sent) ⊎ (datagrams ≡ [])
     → All (IsSendingOrMini leg) sent → All (IsSendingOrMini leg) datagrams

@@ -4,8 +4,8 @@ use Rattle.std.specs.Prelude.{ℕ, ◌≡◌, ◌≢◌, ◌⊎◌, ◌==◌, �
 use Rattle.std.specs.Prelude.{if◌then◌else◌}
 use Rattle.std.specs.List.{AllByRecursion}
 use Rattle.call_signals.specs.Codes.{FRAME_VOICE}
-use Rattle.call_signals.specs.declared.order.Order.{Order}
-use Rattle.call_signals.specs.declared.order.Order.TheVariants as orders
+use Rattle.call_signals.specs.Order.{Order}
+use Rattle.call_signals.specs.declared.order.Command.TheVariants as commands
 use Rattle.iax_frames.specs.FullFrame.{FullFrame, spelling}
 use Rattle.iax_frames.specs.MiniFrame.{mini_spelling}
 use Rattle.outbox.specs.Outbox.{lose}
@@ -207,5 +207,5 @@ pub record CarriesOrder (number : ℕ) (media : List ℕ) (old new : PeerView) :
 
 -- a leg of this number obeyed an order
 abbrev pub CarriesByOrder : Order → ℕ → PeerView → PeerView → Type 0
-CarriesByOrder (orders.Media media) number old new = CarriesOrder number media.now old new
+CarriesByOrder (commands.Media media) number old new = CarriesOrder number media.now old new
 CarriesByOrder order number old new = CarriesOn old new

@@ -1,7 +1,7 @@
 -- The loads that steps put into a peer's outbox and trunk queue, and when both have room for it ("Meta Frames").
 use Rattle.std.specs.Prelude.{◌≡◌, ℕ, ◌+◌, ◌-◌, ◌≤◌, ◌⊎◌, true, false, length, Option, None, Some}
-use Rattle.call_signals.specs.declared.order.OrderKind.{OrderKind}
-use Rattle.call_signals.specs.declared.order.OrderKind.TheVariants as kinds
+use Rattle.call_signals.specs.Order.{Kind}
+use Rattle.call_signals.specs.declared.order.Command.TheVariants as commands
 use Rattle.iax_frames.specs.FullFrame.{FullFrame}
 use Rattle.iax_frames.specs.declared.datagram.Datagram.{Datagram}
 use Rattle.iax_frames.specs.declared.datagram.Datagram.TheVariants.{Full}
@@ -46,10 +46,10 @@ datagram_load peer (Full frame) now = delivered_load (delivery peer frame now) f
 datagram_load peer other now = no_load
 
 -- the load of an order with this many octets of media
-abbrev pub order_load : OrderKind → ℕ → Load
-order_load kinds.Media octets = record { datagrams = 1; octets = octets }
-order_load (kinds.Doom cause) octets = no_load
-order_load kinds.Paid octets = no_load
+abbrev pub order_load : Kind → ℕ → Load
+order_load (commands.Media _) octets = record { datagrams = 1; octets = octets }
+order_load (commands.Doom cause) octets = no_load
+order_load commands.Paid octets = no_load
 order_load kind octets = load_of 1
 
 -- The trunk frames into which a tick packs the queue. In plan version 4 the queue already counts as one datagram.

@@ -8,8 +8,8 @@ use Rattle.leg_machine.specs.Media.{media_sent, after_media, media_frames}
 use Rattle.leg_machine.specs.OrderTable.{Carried as OrderCarried, order_refused, order_carried, wants_memory}
 use Rattle.leg_machine.specs.declared.media.MediaSent.{MediaSent}
 use Rattle.leg_machine.specs.declared.media.MediaSent.TheVariants as sent
-use Rattle.call_signals.specs.declared.order.Order.{Order}
-use Rattle.call_signals.specs.declared.order.Order.TheVariants as orders
+use Rattle.call_signals.specs.Order.{media_of, Order}
+use Rattle.call_signals.specs.declared.order.Command.TheVariants as commands
 use Rattle.call_signals.specs.declared.order.OrderError.{OrderError as LegError}
 use Rattle.call_signals.specs.declared.outcomes.Judged.TheVariants.{Unnumbered}
 use Rattle.memory_requests.specs.Refused.{WasRefused}
@@ -47,11 +47,6 @@ IsOrderRefusal (Some due) e = e ≡ due
 IsOrderRefusal None e = e ≡ errors.Memory
 
 -- ---- media
-
--- the media octets of an order
-abbrev pub order_octets : Order → ℕ
-order_octets (orders.Media media) = length media.now
-order_octets _ = 0
 
 abbrev pub carried_media : PeerView → Carried → ℕ → PeerView
 carried_media peer outcome octets = record peer { accounts = carry_to peer.accounts outcome octets }
@@ -115,7 +110,7 @@ with_order peer named carried =
 
 -- the peer after an order at a leg
 abbrev pub ordered_at : PeerView → NamedLeg → Order → ℕ → PeerView
-ordered_at peer named (orders.Media media) now = counted (carries_media (media_sent named.leg now) peer named media.now now)
+ordered_at peer named (commands.Media media) now = counted (carries_media (media_sent named.leg now) peer named media.now now)
 ordered_at peer named order now =
     with_order peer named (order_carried named.leg order now)
 
@@ -132,7 +127,7 @@ pub record WasOrdered (first_steps : ℕ) (name : LegName) (order : Order) (now 
     (old new : PeerView) (credit_old credit_new : Credit) : Type 0 where
   pub peer : OnOk result (new ≡ ordered_step old name order now)
   pub step : IfOk result (λ step. step ≡ leg_alone name Unnumbered)
-  pub octets : OnOk result (credit_new.octets + order_octets order ≡ credit_old.octets)
+  pub octets : OnOk result (credit_new.octets + length (media_of order) ≡ credit_old.octets)
   pub steps : OnOk result (credit_new.steps ≡ credit_old.steps + 1)
   pub unrefused : OnOk result (order_refused_by old first_steps name order now ≡ None)
   pub refused : IfErr result (IsOrderRefusal (order_refused_by old first_steps name order now))

@@ -7,8 +7,8 @@ use Rattle.leg_machine.specs.Seen.{SeenLeg, SeenFrame, Speaks, seen, frame_effec
 use Rattle.leg_machine.specs.Seen.{IsSeenOrder, IsSeenTick}
 use Rattle.leg_machine.specs.Stage.{is_ended}
 use Rattle.call_signals.specs.declared.openings.Opening.{Opening}
-use Rattle.call_signals.specs.declared.order.OrderKind.{OrderKind}
-use Rattle.call_signals.specs.declared.order.OrderKind.TheVariants as kinds
+use Rattle.call_signals.specs.Order.{Kind}
+use Rattle.call_signals.specs.declared.order.Command.TheVariants as commands
 use Rattle.call_signals.specs.declared.signal.MediaSpan.{MediaSpan}
 use Rattle.call_signals.specs.declared.signal.Signal.{Signal}
 use Rattle.call_signals.specs.declared.stage.Stage.TheVariants.{Waiting}
@@ -95,7 +95,7 @@ pub record OpensOut (old new : PeerLegs) (name : LegName) : Type 0 where
 -- ---- orders
 
 -- the leg of a name obeys an order
-pub record Obeys (old new : PeerLegs) (name : LegName) (kind : OrderKind) : Type 0 where
+pub record Obeys (old new : PeerLegs) (name : LegName) (kind : Kind) : Type 0 where
   pub before : SeenLeg
   pub at : seen_at old name.number ≡ Some (record { name = name; seen = before })
   pub after : SeenLeg
@@ -107,25 +107,25 @@ abbrev pub IsGone : PeerLegs → LegName → Type 0
 IsGone legs name = (before : SeenLeg) → seen_at legs name.number ≢ Some (record { name = name; seen = before })
 
 -- the refusals of an order by a leg in this state whose stage is a right one
-abbrev pub refuses_order : OrderKind → OrderError → Bool
-refuses_order (kinds.Doom cause) error = false
-refuses_order kinds.Paid error = false
+abbrev pub refuses_order : Kind → OrderError → Bool
+refuses_order (commands.Doom cause) error = false
+refuses_order commands.Paid error = false
 refuses_order kind errors.WindowFull = true
 refuses_order kind errors.RecordFull = true
 refuses_order kind errors.Memory = true
 -- a doomed leg accepts no digits
-refuses_order (kinds.Dtmf digit) errors.WrongStage = true
+refuses_order (commands.Dtmf digit) errors.WrongStage = true
 refuses_order kind error = false
 
 -- the leg of the name is there, and its stage is a right one or not
-pub record Refuses (legs : PeerLegs) (name : LegName) (kind : OrderKind) (error : OrderError) (is_right : Bool) : Type 0 where
+pub record Refuses (legs : PeerLegs) (name : LegName) (kind : Kind) (error : OrderError) (is_right : Bool) : Type 0 where
   pub before : SeenLeg
   pub at : seen_at legs name.number ≡ Some (record { name = name; seen = before })
   pub right : is_some (stage_after kind before.stage) ≡ is_right
   pub refuses : is_right ≡ true → refuses_order kind error ≡ true
 
 -- the refusal of an order of a leg, as it is seen
-abbrev pub IsSeenRefusal : PeerLegs → LegName → OrderKind → OrderError → Type 0
+abbrev pub IsSeenRefusal : PeerLegs → LegName → Kind → OrderError → Type 0
 IsSeenRefusal legs name kind errors.StepsSpent = Unit {0}
 IsSeenRefusal legs name kind errors.Gone = IsGone legs name
 IsSeenRefusal legs name kind errors.WrongStage = (is_right : Bool) × Refuses legs name kind errors.WrongStage is_right

@@ -16,8 +16,8 @@ ghost use Rattle.leg_machine.specs.Tie.{IsSending};
 ghost use Rattle.leg_machine.specs.Tries.{NoneDue};
 ghost use Rattle.leg_machine.specs.declared.media.MediaSent.TheVariants.{Quelched};
 ghost use Rattle.call_signals.specs.declared.format.Format.{Format};
-ghost use Rattle.call_signals.specs.declared.order.Order.{Order};
-ghost use Rattle.call_signals.specs.declared.order.OrderKind.TheVariants.{Media};
+ghost use Rattle.call_signals.specs.Order.{media_of, Order};
+ghost use Rattle.call_signals.specs.declared.order.Command.TheVariants.{Media};
 ghost use Rattle.call_signals.specs.declared.rules.PeerRules.{PeerRules};
 ghost use Rattle.call_signals.specs.declared.stage.Stage.TheVariants.{Ended};
 ghost use Rattle.peer_lock.specs.Arrivals.{datagram_step};
@@ -28,7 +28,7 @@ ghost use Rattle.peer_legs.specs.Legs.{AreLegs, IsLegOf, PeerLegs, NamedLeg, leg
 ghost use Rattle.peer_legs.specs.Legs.{is_free_name};
 ghost use Rattle.peer_lock.specs.Loads.{Load, Puts, datagram_load, load_of, no_load, order_load, plus, tick_load};
 ghost use Rattle.peer_lock.specs.Openings.{open_in_refused, opens_in, opens_out, rejects_new};
-ghost use Rattle.peer_lock.specs.Orders.{order_refused_by, order_octets, ordered_step, IsOrderRefusal};
+ghost use Rattle.peer_lock.specs.Orders.{order_refused_by, ordered_step, IsOrderRefusal};
 ghost use Rattle.peer_lock.specs.Peer.{PeerView, counted, to_send, without_leg};
 ghost use Rattle.peer_lock.specs.Seen.{IsSeenDatagram, OpensIn, OpensOut, Obeys, IsSeenRefusal, TicksAll, Retires};
 ghost use Rattle.peer_lock.specs.Seen.{RejectsNew as SeenToReject};
@@ -186,7 +186,7 @@ pub fn resting_peers_stay()
 /// is sent or waits, unless it is quelched. Other orders drop no media.
 pub fn full_trunk_queues_drop_nothing()
     ensures { (peer : PeerView) (name : LegName) (order : Order) (now : ℕ) (named : NamedLeg) → waits peer.rules ≡ true →
-        order_octets order ≤ 1380 → leg_named peer.legs name ≡ Some named → media_sent named.leg now ≢ Quelched →
+        length (media_of order) ≤ 1380 → leg_named peer.legs name ≡ Some named → media_sent named.leg now ≢ Quelched →
         (ordered_step peer name order now).accounts.dropped ≡ peer.accounts.dropped }
 {}
 
@@ -194,9 +194,9 @@ pub fn full_trunk_queues_drop_nothing()
 /// Nothing is lost in the outbox as long as there are at most 256. So 255 pieces of media lose nothing if the outbox was
 /// empty and one trunk frame's worth was queued; without queued media, 256.
 pub fn media_adds_one_datagram()
-    ensures most { (peer : PeerView) (name : LegName) (order : Order) (now : ℕ) → kind_of order ≡ Media →
+    ensures most { (peer : PeerView) (name : LegName) (order : Order) (now : ℕ) → kind_of order ≡ Media tt →
         to_send (ordered_step peer name order now) ≤ to_send peer + 1 }
-    ensures kept { (peer : PeerView) (name : LegName) (order : Order) (now : ℕ) → kind_of order ≡ Media →
+    ensures kept { (peer : PeerView) (name : LegName) (order : Order) (now : ℕ) → kind_of order ≡ Media tt →
         to_send peer + 1 ≤ 256 → (ordered_step peer name order now).outbox.lost ≡ peer.outbox.lost }
 {}
 
@@ -212,7 +212,7 @@ pub fn loads_that_fit_lose_nothing()
         Puts (load_of 1) peer (opens_out peer name called caller format now).peer }
     // Media is 1 to 1,380 octets.
     ensures orders { (peer : PeerView) (name : LegName) (order : Order) (now : ℕ) → IsShortMedia order →
-        Puts (order_load (kind_of order) (order_octets order)) peer (ordered_step peer name order now) }
+        Puts (order_load (kind_of order) (length (media_of order))) peer (ordered_step peer name order now) }
     ensures ticks { (old : PeerView) (now : ℕ) (report : TickReport) (new : PeerView) (ticks : Ticks old now report new) →
         Puts (tick_load old now report new ticks) old new }
     ensures retiring { (peer : PeerView) (name : LegName) → Puts no_load peer (without_leg peer name) }

@@ -9,7 +9,8 @@ ghost use Rattle.peer_legs.specs.Legs.{NamedLeg as NamedLegValue, leg_at};
 ghost use Rattle.peer_lock.specs.Peer.{counted, leg_alone};
 ghost use Rattle.peer_lock.specs.Orders.{counted_media, queued_media, carries_media, with_media, with_order};
 ghost use Rattle.peer_lock.specs.Orders.{from_leg_due, IsOrderRefusal};
-ghost use Rattle.peer_lock.specs.Orders.{WasOrdered, order_octets};
+ghost use Rattle.call_signals.specs.Order.{media_of};
+ghost use Rattle.peer_lock.specs.Orders.{WasOrdered};
 ghost use Rattle.iax_frames.specs.TrunkFrame.{head_len};
 ghost use Rattle.peer_lock.specs.Trunks.{has_any, waits};
 ghost use Rattle.trunk_packer.specs.Queue.{trunk_octets};
@@ -212,7 +213,7 @@ impl<J: LedgerSet> PeerState<J> {
         now: u64,
     ) -> Result<Step, OrderError>
         requires media { IsShortMedia order.now }
-        requires credit { order_octets order.now ≤ pass.old.octets }
+        requires credit { length (media_of order.now) ≤ pass.old.octets }
         ensures { WasOrdered J.first_steps name order.now now result self.old self.new pass.old pass.new }
     {
         if self.account.is_spent() {

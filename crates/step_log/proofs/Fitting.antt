@@ -4,36 +4,21 @@ use Rattle.std.proofs.Common.{sym, ap, subst, ◌∙◌, inl, inr}
 use Rattle.std.specs.Prelude.{Ok, Err}
 use Rattle.std.proofs.lemmas.Bool.{cases_Bool, eqb-true, eq-eqb}
 use Rattle.call_book.specs.declared.leg_name.LegName.{LegName}
-use Rattle.call_signals.specs.Order.{kind_of}
+use Rattle.call_signals.specs.Order.{kind_of, media_of, Kind, Order}
 use Rattle.call_signals.specs.declared.format.Format.{Format}
-use Rattle.call_signals.specs.declared.order.Order.{Order}
-use Rattle.call_signals.specs.declared.order.Order.TheVariants as orders
-use Rattle.call_signals.specs.declared.order.OrderKind.{OrderKind}
 use Rattle.iax_frames.specs.FullFrame.{FullFrame}
 use Rattle.iax_frames.specs.declared.datagram.Datagram.{Datagram}
 use Rattle.leg_machine.specs.OrderTable.{IsShortMedia}
 use Rattle.step_log.specs.Followed.{Follow, Leads, LeadsAll, LeadsAt, Obeys, load_at, load_of_step, loads_at, place_of}
-use Rattle.step_log.specs.Notes.{media_of}
 use Rattle.step_log.specs.declared.made.Made.{Made}
 use Rattle.step_log.specs.declared.made.Made.TheVariants as mades
 use Rattle.peer_lock.specs.Arrivals.{datagram_step}
 use Rattle.peer_lock.specs.Loads.{Load, Puts, datagram_load, load_of, no_load, order_load, plus, tick_load}
 use Rattle.peer_lock.specs.Openings.{opens_in, opens_out, rejects_new}
-use Rattle.peer_lock.specs.Orders.{order_octets, ordered_step}
+use Rattle.peer_lock.specs.Orders.{ordered_step}
 use Rattle.peer_lock.specs.Peer.{PeerView, TakesOut, without_leg}
 use Rattle.peer_lock.specs.Ticks.{Ticks}
 use Rattle.peer_lock.specs.declared.steps.TickReport.{TickReport}
-
-media_is : (order : Order) → order_octets order ≡ length (media_of order)
-media_is (orders.Media media) = refl
-media_is (orders.Accept format) = refl
-media_is (orders.Reject cause) = refl
-media_is (orders.Indicate indication) = refl
-media_is orders.Answer = refl
-media_is (orders.Dtmf digit) = refl
-media_is (orders.Hangup cause) = refl
-media_is (orders.Doom cause) = refl
-media_is orders.Paid = refl
 
 -- the peer at a place after a step, and the load that the step put there
 record Next (load : Load) (first : PeerView) (place : ℕ) (new : List PeerView) : Type 0 where
@@ -49,7 +34,7 @@ module _ (datagrams : (first : ℕ) (peer : PeerView) (datagram : Datagram) (now
     (calls_out : (peer : PeerView) (name : LegName) (called : List ℕ) (caller : List ℕ) (format : Format) (now : ℕ)
     → Puts (load_of 1) peer (opens_out peer name called caller format now).peer)
     (orders_put : (peer : PeerView) (name : LegName) (order : Order) (now : ℕ) → IsShortMedia order
-    → Puts (order_load (kind_of order) (order_octets order)) peer (ordered_step peer name order now))
+    → Puts (order_load (kind_of order) (length (media_of order))) peer (ordered_step peer name order now))
     (ticks_put : (old : PeerView) (now : ℕ) (report : TickReport) (new : PeerView) (ticks : Ticks old now report new)
     → Puts (tick_load old now report new ticks) old new)
     (retiring : (peer : PeerView) (name : LegName) → Puts no_load peer (without_leg peer name))
@@ -71,17 +56,15 @@ module _ (datagrams : (first : ℕ) (peer : PeerView) (datagram : Datagram) (now
         queued = λ room. refl;
       })
 
-  obeys_puts : (name : LegName) (kind : OrderKind) (media : List ℕ) (now : ℕ) (old new : PeerView)
+  obeys_puts : (name : LegName) (kind : Kind) (media : List ℕ) (now : ℕ) (old new : PeerView)
       → Obeys name kind media now old new
       → Puts (order_load kind (length media)) old new
   obeys_puts name kind media now old new obeys =
       subst (λ (p : PeerView). Puts (order_load kind (length media)) old p) (sym obeys.becomes)
       (subst (λ (l : List ℕ). Puts (order_load kind (length l)) old (ordered_step old name obeys.order now)) obeys.media_is
-      (subst (λ (k : OrderKind). Puts (order_load k (length (media_of obeys.order))) old (ordered_step old name obeys.order now))
+      (subst (λ (k : Kind). Puts (order_load k (length (media_of obeys.order))) old (ordered_step old name obeys.order now))
       obeys.kind_is
-      (subst (λ (n : ℕ). Puts (order_load (kind_of obeys.order) n) old (ordered_step old name obeys.order now))
-      (media_is obeys.order)
-      (orders_put old name obeys.order now obeys.short))))
+      (orders_put old name obeys.order now obeys.short)))
 
   step_puts : (made : Made) (old new : PeerView) (leads : Leads made old new) → Puts (load_of_step made old new leads) old new
   step_puts (mades.Datagram peer octets now (Ok step) onwards) old new leads =

@@ -2,13 +2,12 @@
 use Rattle.std.proofs.Common.{◌≡◌, ℕ, ◌==◌, Bool, true, false, List, Option, None, Some, if◌then◌else◌, refl}
 use Rattle.std.specs.Prelude.{Result, Ok, Err}
 use Rattle.call_book.specs.declared.leg_name.LegName.{LegName}
-use Rattle.call_signals.specs.Order.{kind_of}
+use Rattle.call_signals.specs.Order.{kind_of, media_of, Order}
 use Rattle.call_signals.specs.declared.format.Format.{Format}
-use Rattle.call_signals.specs.declared.order.Order.{Order}
 use Rattle.iax_frames.specs.FullFrame.{FullFrame}
 use Rattle.leg_machine.specs.OrderTable.{IsShortMedia}
 use Rattle.step_log.specs.Followed.{Leads}
-use Rattle.step_log.specs.Notes.{given_up, media_of, without_lease}
+use Rattle.step_log.specs.Notes.{given_up, without_lease}
 use Rattle.step_log.specs.declared.made.Made.TheVariants as mades
 use Rattle.peer_lock.specs.Accounts.{Credit}
 use Rattle.peer_lock.specs.HandedUp.{HandedUp}

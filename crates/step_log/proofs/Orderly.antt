@@ -3,10 +3,8 @@ use Rattle.std.proofs.Common.{◌≡◌, ℕ, ◌+◌, arith, List, [], ◌∷�
 use Rattle.std.proofs.Common.{refl, sym, ap, subst, ◌∙◌}
 use Rattle.std.proofs.lemmas.List.{append-nil, append_assoc}
 use Rattle.call_book.specs.declared.leg_name.LegName.{LegName}
-use Rattle.call_signals.specs.Order.{kind_of}
-use Rattle.call_signals.specs.declared.order.Order.{Order}
-use Rattle.call_signals.specs.declared.order.Order.TheVariants as orders
-use Rattle.step_log.specs.Notes.{media_of}
+use Rattle.call_signals.specs.Order.{kind_of, media_of, Order}
+use Rattle.call_signals.specs.declared.order.Command.TheVariants as commands
 use Rattle.step_log.specs.Trails.{AreWaysOf, OrderedMedia, dropped_by_all, media_by, put_by_all, queued_by_all}
 use Rattle.peer_lock.specs.CarriedOn.{CarriedOn, CarriesByOrder, CarriesOn, CarriesOrder}
 use Rattle.peer_lock.specs.CarriedOn.{KeepsOrder, Outgoing, QueueEntry, Way, followed_by}
@@ -159,12 +157,12 @@ one_taken out old new takes = record {
 -- an order, by its kind and its media
 pub order_goes : (name : LegName) (order : Order) (old new : PeerView) → CarriesByOrder order name.number old new
     → Goes (media_by (kind_of order) name (media_of order)) [] old new
-order_goes name (orders.Media media) old new carries = one_media name media.now old new carries
-order_goes name (orders.Accept format) old new carries = no_media old new carries
-order_goes name (orders.Reject cause) old new carries = no_media old new carries
-order_goes name (orders.Indicate indication) old new carries = no_media old new carries
-order_goes name orders.Answer old new carries = no_media old new carries
-order_goes name (orders.Dtmf digit) old new carries = no_media old new carries
-order_goes name (orders.Hangup cause) old new carries = no_media old new carries
-order_goes name (orders.Doom cause) old new carries = no_media old new carries
-order_goes name orders.Paid old new carries = no_media old new carries
+order_goes name (commands.Media media) old new carries = one_media name media.now old new carries
+order_goes name (commands.Accept format) old new carries = no_media old new carries
+order_goes name (commands.Reject cause) old new carries = no_media old new carries
+order_goes name (commands.Indicate indication) old new carries = no_media old new carries
+order_goes name commands.Answer old new carries = no_media old new carries
+order_goes name (commands.Dtmf digit) old new carries = no_media old new carries
+order_goes name (commands.Hangup cause) old new carries = no_media old new carries
+order_goes name (commands.Doom cause) old new carries = no_media old new carries
+order_goes name commands.Paid old new carries = no_media old new carries

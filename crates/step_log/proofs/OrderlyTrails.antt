@@ -5,12 +5,10 @@ use Rattle.std.specs.Prelude.{Ok, Err}
 use Rattle.std.proofs.lemmas.Bool.{cases_Bool, eqb-true, eq-eqb}
 use Rattle.call_book.specs.declared.leg_name.LegName.{LegName}
 use Rattle.call_signals.specs.declared.format.Format.{Format}
-use Rattle.call_signals.specs.declared.order.Order.{Order}
-use Rattle.call_signals.specs.declared.order.OrderKind.{OrderKind}
+use Rattle.call_signals.specs.Order.{media_of, Kind, Order}
 use Rattle.iax_frames.specs.FullFrame.{FullFrame}
 use Rattle.iax_frames.specs.declared.datagram.Datagram.{Datagram}
 use Rattle.step_log.specs.Followed.{AreSound, Follow, Leads, LeadsAll, LeadsAt, Obeys, place_of}
-use Rattle.step_log.specs.Notes.{media_of}
 use Rattle.step_log.specs.Trails.{CarriesTrail, OrderedMedia, is_at, media_at, media_by, media_in, taken_at, taken_in}
 use Rattle.step_log.specs.declared.made.Made.{Made}
 use Rattle.step_log.specs.declared.made.Made.TheVariants as mades
@@ -67,13 +65,13 @@ module _ (datagrams : (first : ℕ) (peer : PeerView) (datagram : Datagram) (now
   becomes : (old mid new : PeerView) → new ≡ mid → CarriesOn old mid → Goes [] [] old new
   becomes old mid new same carries = subst (λ (p : PeerView). Goes [] [] old p) (sym same) (no_media old mid carries)
 
-  obeys_goes : (peer : ℕ) (name : LegName) (kind : OrderKind) (media : List ℕ) (now : ℕ) (step : Step) (old new : PeerView)
+  obeys_goes : (peer : ℕ) (name : LegName) (kind : Kind) (media : List ℕ) (now : ℕ) (step : Step) (old new : PeerView)
       → IsSoundPeer old
       → Obeys name kind media now old new → Goes (media_in (mades.Order peer name kind media now (Ok step))) [] old new
   obeys_goes peer name kind media now step old new sound obeys =
       subst (λ (p : PeerView). Goes (media_by kind name media) [] old p) (sym obeys.becomes)
       (subst (λ (l : List ℕ). Goes (media_by kind name l) [] old (ordered_step old name obeys.order now)) obeys.media_is
-      (subst (λ (k : OrderKind). Goes (media_by k name (media_of obeys.order)) [] old (ordered_step old name obeys.order now))
+      (subst (λ (k : Kind). Goes (media_by k name (media_of obeys.order)) [] old (ordered_step old name obeys.order now))
       obeys.kind_is
       (order_goes name obeys.order old (ordered_step old name obeys.order now)
       (orders_carry old name obeys.leg obeys.order now sound.legs obeys.named))))

@@ -2,14 +2,11 @@
 -- peer.
 use Rattle.std.specs.Prelude.{◌≡◌, ◌≢◌, ℕ, ◌==◌, List, [], ◌∷◌, length, slice_get, Option, None, Some, Ok, if◌then◌else◌}
 use Rattle.call_book.specs.declared.leg_name.LegName.{LegName}
-use Rattle.call_signals.specs.Order.{kind_of}
-use Rattle.call_signals.specs.declared.order.Order.{Order}
-use Rattle.call_signals.specs.declared.order.OrderKind.{OrderKind}
+use Rattle.call_signals.specs.Order.{kind_of, media_of, Kind, Order}
 use Rattle.iax_frames.specs.Datagram.{Spells}
 use Rattle.iax_frames.specs.declared.datagram.Datagram.{Datagram}
 use Rattle.iax_frames.specs.declared.full_frame.FullHead.{FullHead}
 use Rattle.leg_machine.specs.OrderTable.{IsShortMedia}
-use Rattle.step_log.specs.Notes.{media_of}
 use Rattle.step_log.specs.declared.made.Made.{Made}
 use Rattle.step_log.specs.declared.made.Made.TheVariants as mades
 use Rattle.peer_lock.specs.Arrivals.{datagram_step}
@@ -47,7 +44,7 @@ pub record RejectsNew (head : FullHead) (payload : List ℕ) (step : Step) (old 
   pub answers : step ≡ (rejects_new old (record { head = head; payload = payload })).step
 
 -- the leg of a name obeyed an order, whose kind and media are noted
-pub record Obeys (name : LegName) (kind : OrderKind) (media : List ℕ) (now : ℕ) (old new : PeerView) : Type 0 where
+pub record Obeys (name : LegName) (kind : Kind) (media : List ℕ) (now : ℕ) (old new : PeerView) : Type 0 where
   pub leg : NamedLeg
   pub named : leg_named old.legs name ≡ Some leg
   pub order : Order

@@ -2,8 +2,6 @@
 use Rattle.std.specs.Prelude.{◌≡◌, ℕ, List, [], ◌∷◌, ◌++◌, ◌+◌, Result, Ok, Err, Option, None, Some}
 use Rattle.peer_accounts.specs.Accounts.{Credit}
 use Rattle.peer_lock.specs.Peer.{PeerView}
-use Rattle.call_signals.specs.declared.order.Order.{Order}
-use Rattle.call_signals.specs.declared.order.Order.TheVariants as orders
 use Rattle.step_log.specs.declared.made.Made.{Made}
 use Rattle.step_log.specs.declared.made.Made.TheVariants as mades
 
@@ -46,11 +44,6 @@ without_lease (Err back) = Err back.1
 abbrev pub given_up : {L A : Type 0} → Option (L × A) → Option A
 given_up None = None
 given_up (Some given) = Some given.1
-
--- the octets of an order's media
-abbrev pub media_of : Order → List ℕ
-media_of (orders.Media media) = media.now
-media_of order = []
 
 -- a peer's place in the plan, and its state
 pub record Peer : Type 0 where

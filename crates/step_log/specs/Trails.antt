@@ -1,8 +1,8 @@
 -- The media that the steps of a trail carry on at the peer of one place ("Mini Frames", "Meta Frames").
 use Rattle.std.specs.Prelude.{◌≡◌, ℕ, ◌+◌, ◌==◌, Bool, false, List, [], ◌∷◌, ◌++◌, length, Option, None, Some, Ok, if◌then◌else◌}
 use Rattle.call_book.specs.declared.leg_name.LegName.{LegName}
-use Rattle.call_signals.specs.declared.order.OrderKind.{OrderKind}
-use Rattle.call_signals.specs.declared.order.OrderKind.TheVariants as kinds
+use Rattle.call_signals.specs.Order.{Kind}
+use Rattle.call_signals.specs.declared.order.Command.TheVariants as commands
 use Rattle.step_log.specs.Followed.{place_of}
 use Rattle.step_log.specs.declared.made.Made.{Made}
 use Rattle.step_log.specs.declared.made.Made.TheVariants as mades
@@ -18,8 +18,8 @@ pub record OrderedMedia : Type 0 where
   pub media : List ℕ
 
 -- the media of an order
-abbrev pub media_by : OrderKind → LegName → List ℕ → List OrderedMedia
-media_by kinds.Media name media = record { name = name; media = media } ∷ []
+abbrev pub media_by : Kind → LegName → List ℕ → List OrderedMedia
+media_by (commands.Media _) name media = record { name = name; media = media } ∷ []
 media_by kind name media = []
 
 -- the media of a step that is an order

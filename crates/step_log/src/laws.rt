@@ -1,13 +1,12 @@
 //! Laws of every trail that peers follow.
 ghost use Rattle.std.specs.Prelude.{◌≡◌, ◌+◌, ◌≤◌, ℕ, List, Option, None, Result, Some, Bool, if◌then◌else◌, slice_get};
 ghost use Rattle.call_book.specs.declared.leg_name.LegName.{LegName};
-ghost use Rattle.call_signals.specs.Order.{kind_of};
+ghost use Rattle.call_signals.specs.Order.{kind_of, media_of, Order};
 ghost use Rattle.call_signals.specs.declared.format.Format.{Format};
-ghost use Rattle.call_signals.specs.declared.order.Order.{Order};
 ghost use Rattle.iax_frames.specs.FullFrame.{FullFrame};
 ghost use Rattle.leg_machine.specs.OrderTable.{IsShortMedia};
 ghost use Rattle.step_log.specs.Followed.{AreSound, Follow, Leads, loads_at};
-ghost use Rattle.step_log.specs.Notes.{given_up, media_of, without_lease};
+ghost use Rattle.step_log.specs.Notes.{given_up, without_lease};
 ghost use Rattle.step_log.specs.Trails.{CarriesTrail};
 ghost use Rattle.step_log.specs.declared.made.Made.{Made};
 ghost use Rattle.step_log.specs.declared.made.Made.TheVariants as mades;

@@ -7,7 +7,7 @@ use crate::trail::Trail;
 use call_auth::Challenge;
 use call_book::{BridgeError, Lease, LegName, PeerId, ReserveError, Stale};
 use iax_frames::{FullHead, Octets, Out};
-use leg_machine::{Caller, Format, OrderKind};
+use leg_machine::{Caller, Command, Format};
 use peer_lock::{
     EndedLeg, Onwards, OpenError, OrderError, PeerError, RejectError, Status, Step, StepsSpent,
     TickReport,
@@ -36,7 +36,7 @@ pub enum Made {
     /// moment, and the answer.
     OpenOut(PeerId, LegName, Octets, Seen<Caller>, Format, u64, Result<Step, OpenError>),
     /// A leg of a peer gets an order: the leg's name, the order with its media, the moment, and the answer.
-    Order(PeerId, LegName, OrderKind, Octets, u64, Result<Step, OrderError>),
+    Order(PeerId, LegName, Command<()>, Octets, u64, Result<Step, OrderError>),
     /// A tick of a peer: the moment, and the answer.
     Tick(PeerId, u64, Result<TickReport, StepsSpent>),
     /// A query of a leg of a peer: its local number, and its status.

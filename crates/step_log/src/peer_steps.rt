@@ -1,15 +1,15 @@
 //! The steps of a peer, each noted under its pass.
 ghost use Rattle.std.specs.Prelude.{◌≡◌, ◌≤◌, length, if◌then◌else◌, None, Some};
-ghost use Rattle.call_signals.specs.Order.{kind_of};
+ghost use Rattle.call_signals.specs.Order.{kind_of, media_of};
 ghost use Rattle.leg_machine.specs.OrderTable.{IsShortMedia};
 ghost use Rattle.peer_accounts.specs.HandedUp.{IsNothing};
 ghost use Rattle.peer_lock.specs.Makes.{WasHandled};
 ghost use Rattle.peer_lock.specs.Openings.{IsOpening, WasOpenedIn, WasOpenedOut, WasRejected};
-ghost use Rattle.peer_lock.specs.Orders.{WasOrdered, order_octets};
+ghost use Rattle.peer_lock.specs.Orders.{WasOrdered};
 ghost use Rattle.peer_lock.specs.Peer.{WasTakenInto, WasTakenOut};
 ghost use Rattle.peer_lock.specs.Statuses.{WasLookedAt, WasRetired};
 ghost use Rattle.peer_lock.specs.Ticks.{WasTicked};
-ghost use Rattle.step_log.specs.Notes.{Notes, given_up, media_of, note, without_lease};
+ghost use Rattle.step_log.specs.Notes.{Notes, given_up, note, without_lease};
 ghost use Rattle.step_log.specs.declared.made.Made.TheVariants as mades;
 
 use crate::made::{Made, push, told};
@@ -212,7 +212,7 @@ impl<J: LedgerSet> NotedPeer<J> {
         now: u64,
     ) -> Result<Step, OrderError>
         requires media { IsShortMedia order.now }
-        requires credit { order_octets order.now ≤ pass.old.credit.octets }
+        requires credit { length (media_of order.now) ≤ pass.old.credit.octets }
         ensures noted { Notes
             (mades.Order self.old.number name (kind_of order.now) (media_of order.now) now result) pass.old pass.new }
         ensures number { self.new.number ≡ self.old.number }

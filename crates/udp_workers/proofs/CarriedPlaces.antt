@@ -13,8 +13,8 @@ use Rattle.call_signals.specs.declared.signal.Signal.{Signal}
 use Rattle.call_signals.specs.declared.signal.Signal.TheVariants as signals
 use Rattle.call_control.specs.Work.{Rest, Work, after_look, after_no_room, after_status, at, finish, go_on, go_on_from, next_at}
 use Rattle.call_control.specs.Work.{passed_on, place_for, told_at}
-use Rattle.call_control.specs.declared.act.Act.{Act}
-use Rattle.call_control.specs.declared.act.Act.TheVariants as acts
+use Rattle.call_signals.specs.declared.order.Command.{Command}
+use Rattle.call_signals.specs.declared.order.Command.TheVariants as commands
 use Rattle.call_control.specs.declared.need.Need.TheVariants as needs
 use Rattle.call_control.specs.declared.need.Route.TheVariants as routes
 use Rattle.call_control.specs.declared.place.Place.{Place}
@@ -67,7 +67,7 @@ abbrev pub Names : List ℕ → Reply → Place → List Made → List Made → 
 Names octets (replies.Datagram (Err peer_errors.NeedsNumber)) (places.Datagram first) was earlier =
     (now : ℕ) × (onwards : HandedUp) × (earlier ≡ mades.Datagram first octets now (Err peer_errors.NeedsNumber) onwards ∷ was)
 Names octets (replies.Reserve (Ok name)) (places.ReserveIn first) was earlier = earlier ≡ mades.Reserve first (Ok name) ∷ was
-Names octets (replies.Partner (Some partner)) (places.Finding leg act) was earlier =
+Names octets (replies.Partner (Some partner)) (places.Finding leg command) was earlier =
     earlier ≡ mades.Partner leg (Some partner) ∷ was
 Names octets reply place was earlier = Unit {0}
 
@@ -78,8 +78,8 @@ module _ (peer : ℕ) (octets : List ℕ) (waiting : Signals) where
   Pends earlier (places.Datagram first) onward = (first ≡ peer) × (earlier ≡ []) × (onward ≡ [])
   Pends earlier (places.ReserveIn first) onward = (first ≡ peer) × NeedsName peer octets earlier × (onward ≡ [])
   Pends earlier (places.OpenIn name) onward = NeededName peer octets earlier name × (onward ≡ [])
-  Pends earlier (places.Finding leg (acts.Media span)) onward = Ends waiting ((leg, signals.Media span) ∷ onward)
-  Pends earlier (places.Passing partner (acts.Media span)) onward =
+  Pends earlier (places.Finding leg (commands.Media span)) onward = Ends waiting ((leg, signals.Media span) ∷ onward)
+  Pends earlier (places.Passing partner (commands.Media span)) onward =
       (leg : LegName) × (before : List Made) × (earlier ≡ mades.Partner leg (Some partner) ∷ before) ×
       Ends waiting ((leg, signals.Media span) ∷ onward)
   Pends earlier place onward = Ends waiting onward
@@ -126,33 +126,36 @@ module _ (peer : ℕ) (octets : List ℕ) (waiting : Signals) where
       (λ _. looks_at earlier status.name status.owes status.cause rest ends) (λ _. goes earlier rest ends)
   looked earlier reply name rest ends = goes earlier rest ends
 
-  no_room : (earlier : List Made) (act : Act) (partner : LegName) (rest : Rest)
-      → Ends waiting rest.onward → Stands earlier (after_no_room act partner rest)
-  no_room earlier (acts.Media span) partner rest ends = goes earlier rest ends
-  no_room earlier act partner rest ends = ends
+  no_room : (earlier : List Made) (command : Command MediaSpan) (partner : LegName) (rest : Rest)
+      → Ends waiting rest.onward → Stands earlier (after_no_room command partner rest)
+  no_room earlier (commands.Media span) partner rest ends = goes earlier rest ends
+  no_room earlier command partner rest ends = ends
 
-  pub passed : (earlier : List Made) (reply : Reply) (partner : LegName) (act : Act) (rest : Rest)
-      → Ends waiting rest.onward → Stands earlier (told_at (places.Passing partner act) reply rest)
-  passed earlier (replies.Order (Err order_errors.WindowFull)) partner act rest ends = no_room earlier act partner rest ends
-  passed earlier (replies.Order (Err order_errors.RecordFull)) partner act rest ends = no_room earlier act partner rest ends
-  passed earlier (replies.Order (Err order_errors.Memory)) partner act rest ends = no_room earlier act partner rest ends
-  passed earlier reply partner act rest ends = goes earlier rest ends
+  pub passed : (earlier : List Made) (reply : Reply) (partner : LegName) (command : Command MediaSpan) (rest : Rest)
+      → Ends waiting rest.onward → Stands earlier (told_at (places.Passing partner command) reply rest)
+  passed earlier (replies.Order (Err order_errors.WindowFull)) partner command rest ends =
+      no_room earlier command partner rest ends
+  passed earlier (replies.Order (Err order_errors.RecordFull)) partner command rest ends =
+      no_room earlier command partner rest ends
+  passed earlier (replies.Order (Err order_errors.Memory)) partner command rest ends = no_room earlier command partner rest ends
+  passed earlier reply partner command rest ends = goes earlier rest ends
 
-  found : (was earlier : List Made) (name partner : LegName) (act : Act) (rest : Rest)
-      → earlier ≡ mades.Partner name (Some partner) ∷ was → Stands was (at (places.Finding name act) rest)
-      → Stands earlier (at (places.Passing partner act) rest)
-  found was earlier name partner (acts.Media span) rest named stands = (name, was, named, stands)
-  found was earlier name partner act rest named stands = stands
+  found : (was earlier : List Made) (name partner : LegName) (command : Command MediaSpan) (rest : Rest)
+      → earlier ≡ mades.Partner name (Some partner) ∷ was → Stands was (at (places.Finding name command) rest)
+      → Stands earlier (at (places.Passing partner command) rest)
+  found was earlier name partner (commands.Media span) rest named stands = (name, was, named, stands)
+  found was earlier name partner command rest named stands = stands
 
-  finding_left : (was : List Made) (name : LegName) (act : Act) (rest : Rest)
-      → Stands was (at (places.Finding name act) rest) → Ends waiting rest.onward
-  finding_left was name (acts.Media span) rest stands = one_less (name, signals.Media span) rest.onward waiting stands
-  finding_left was name act rest stands = stands
+  finding_left : (was : List Made) (name : LegName) (command : Command MediaSpan) (rest : Rest)
+      → Stands was (at (places.Finding name command) rest) → Ends waiting rest.onward
+  finding_left was name (commands.Media span) rest stands = one_less (name, signals.Media span) rest.onward waiting stands
+  finding_left was name command rest stands = stands
 
-  passing_left : (was : List Made) (partner : LegName) (act : Act) (rest : Rest)
-      → Stands was (at (places.Passing partner act) rest) → Ends waiting rest.onward
-  passing_left was partner (acts.Media span) rest stands = one_less (stands.0, signals.Media span) rest.onward waiting stands.3
-  passing_left was partner act rest stands = stands
+  passing_left : (was : List Made) (partner : LegName) (command : Command MediaSpan) (rest : Rest)
+      → Stands was (at (places.Passing partner command) rest) → Ends waiting rest.onward
+  passing_left was partner (commands.Media span) rest stands =
+      one_less (stands.0, signals.Media span) rest.onward waiting stands.3
+  passing_left was partner command rest stands = stands
 
   -- at each place of the call
   pub stays : (was earlier : List Made) (place : Place) (reply : Reply) (rest : Rest) → hands reply ≡ false
@@ -200,12 +203,12 @@ module _ (peer : ℕ) (octets : List ℕ) (waiting : Signals) where
   stays was earlier (places.Checking target) reply rest quiet names stands = stands
   stays was earlier (places.Undoing offered target) reply rest quiet names stands = stands
   stays was earlier (places.Dooming name cause) reply rest quiet names stands = goes earlier rest stands
-  stays was earlier (places.Finding name act) (replies.Partner (Some partner)) rest quiet names stands =
-      found was earlier name partner act rest names stands
-  stays was earlier (places.Finding name act) reply rest quiet names stands =
-      goes earlier rest (finding_left was name act rest stands)
-  stays was earlier (places.Passing partner act) reply rest quiet names stands =
-      passed earlier reply partner act rest (passing_left was partner act rest stands)
+  stays was earlier (places.Finding name command) (replies.Partner (Some partner)) rest quiet names stands =
+      found was earlier name partner command rest names stands
+  stays was earlier (places.Finding name command) reply rest quiet names stands =
+      goes earlier rest (finding_left was name command rest stands)
+  stays was earlier (places.Passing partner command) reply rest quiet names stands =
+      passed earlier reply partner command rest (passing_left was partner command rest stands)
   stays was earlier (places.Looking name) reply rest quiet names stands = looked earlier reply name rest stands
   stays was earlier (places.LookingAt other number) (replies.Look (Some status)) rest quiet names stands =
       looks_at earlier status.name status.owes status.cause rest stands
@@ -243,14 +246,15 @@ pub open_place : (place : Place) (name : LegName) → next_at place ≡ Some (ne
 open_place (places.OpenIn opened) name is = cc
 open_place place name is = cc
 
-pub media_place : (place : Place) (name : LegName) (span : MediaSpan) → next_at place ≡ Some (needs.Order name (acts.Media span))
-    → place ≡ places.Passing name (acts.Media span)
-media_place (places.Passing partner act) name span is = cc
+pub media_place : (place : Place) (name : LegName) (span : MediaSpan) → next_at place
+    ≡ Some (needs.Order name (commands.Media span))
+    → place ≡ places.Passing name (commands.Media span)
+media_place (places.Passing partner command) name span is = cc
 media_place place name span is = cc
 
 pub names_partner : (place : Place) (leg : LegName) (answer : Option LegName) → next_at place ≡ Some (needs.Partner leg)
     → (octets : List ℕ) (was : List Made) → Names octets (replies.Partner answer) place was (mades.Partner leg answer ∷ was)
-names_partner (places.Finding asked act) leg (Some partner) is octets was = cc
+names_partner (places.Finding asked command) leg (Some partner) is octets was = cc
 names_partner place leg None is octets was = tt
 names_partner place leg (Some partner) is octets was = tt
 

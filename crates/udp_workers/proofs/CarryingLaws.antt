@@ -3,24 +3,22 @@ use Rattle.std.proofs.Common.{◌≡◌, ℕ, Bool, true, false, List, [], ◌�
 use Rattle.std.proofs.Common.{inl, inr, arith}
 use Rattle.std.specs.List.{AllByRecursion}
 use Rattle.call_book.specs.declared.leg_name.LegName.{LegName}
-use Rattle.call_signals.specs.declared.order.OrderKind.{OrderKind}
-use Rattle.call_signals.specs.declared.order.OrderKind.TheVariants as kinds
+use Rattle.call_signals.specs.Order.{kind_of, media_over, Kind}
+use Rattle.call_signals.specs.declared.order.Command.TheVariants as commands
 use Rattle.call_signals.specs.declared.signal.MediaSpan.{MediaSpan}
 use Rattle.call_signals.specs.declared.signal.Signal.{Signal}
 use Rattle.call_signals.specs.declared.signal.Signal.TheVariants as signals
-use Rattle.call_control.specs.Act.{act_kind, act_media}
 use Rattle.call_control.specs.Work.{Rest, Work, after_told, at, go_on, next_of, of_call, of_datagram, of_hang_up, of_tick}
 use Rattle.call_control.specs.Work.{told_at}
 use Rattle.call_control.specs.WorkState.{WorkState, begun, offer_in}
-use Rattle.call_control.specs.declared.act.Act.{Act}
-use Rattle.call_control.specs.declared.act.Act.TheVariants as acts
+use Rattle.call_signals.specs.declared.order.Command.{Command}
 use Rattle.call_control.specs.declared.need.Need.{Need}
 use Rattle.call_control.specs.declared.need.Need.TheVariants as needs
 use Rattle.call_control.specs.declared.place.Place.{Place}
 use Rattle.call_control.specs.declared.place.Place.TheVariants as places
 use Rattle.call_control.specs.declared.reply.Reply.{Reply}
 use Rattle.call_control.specs.declared.reply.Reply.TheVariants as replies
-use Rattle.exchange_core.specs.Traces.{Call, IsHeard, IsMade, IsTrace, IsUnasked, done_of, octets_of, told}
+use Rattle.exchange_core.specs.Traces.{Call, IsHeard, IsMade, IsTrace, IsUnasked, done_of, told}
 use Rattle.step_log.specs.Notes.{Noted}
 use Rattle.step_log.specs.declared.made.Made.{Made}
 use Rattle.step_log.specs.declared.made.Made.TheVariants as mades
@@ -47,7 +45,7 @@ unasked_quiet : (call : Call) (handed : Option HandedUp) (need : Need) (reply : 
     → IsUnasked call (offer_in handed) need reply → IsQuiet reply
 unasked_quiet call handed (needs.OpenOut name) reply is =
     quiet_is reply _ is.0 (record { quiet = refl; names = λ octets place was earlier. tt })
-unasked_quiet call handed (needs.Order name act) reply is =
+unasked_quiet call handed (needs.Order name command) reply is =
     quiet_is reply _ is.0 (record { quiet = refl; names = λ octets place was earlier. tt })
 unasked_quiet call handed (needs.Look peer number) reply is =
     quiet_is reply _ is.0 (record { quiet = refl; names = λ octets place was earlier. tt })
@@ -58,18 +56,19 @@ unasked_quiet call handed (needs.Route name) (replies.Route route) is =
 unasked_quiet call handed (needs.Route name) reply is = absurd is
 unasked_quiet call handed need reply is = absurd is
 
-media_act : (act : Act) → kinds.Media ≡ act_kind act → (span : MediaSpan) × (act ≡ acts.Media span)
-media_act (acts.Media span) is = (span, refl)
-media_act act is = cc
+media_command : (command : Command MediaSpan) → commands.Media tt ≡ kind_of command
+    → (span : MediaSpan) × (command ≡ commands.Media span)
+media_command (commands.Media span) is = (span, refl)
+media_command command is = cc
 
-abbrev is_media : OrderKind → Bool
-is_media kinds.Media = true
+abbrev is_media : Kind → Bool
+is_media (commands.Media _) = true
 is_media kind = false
 
-no_media : (act : Act) (kind : OrderKind) (octets : List ℕ) → kind ≡ act_kind act → is_media kind ≡ false
-    → octets_of (act_media act octets) ≡ []
-no_media (acts.Media span) kind octets is other = let same : true ≡ false = sym (ap is_media is) ∙ other in cc
-no_media act kind octets is other = refl
+no_media : (command : Command MediaSpan) (kind : Kind) (octets : List ℕ) → kind ≡ kind_of command → is_media kind ≡ false
+    → media_over command octets ≡ []
+no_media (commands.Media span) kind octets is other = let same : true ≡ false = sym (ap is_media is) ∙ other in cc
+no_media command kind octets is other = refl
 
 -- what follows from an answer at a place
 told_so : (P : Work → Type 0) (work : Work) (place : Place) (reply answer : Reply) → work.place ≡ place → reply ≡ answer
@@ -152,14 +151,15 @@ module _ (call : Call) (peer : ℕ) where
         told_so (Here [] notes) work (places.OpenIn name) reply (replies.OpenIn (Err error)) here made.1
             (stays peer call.octets [] earlier notes (places.OpenIn name) (replies.OpenIn (Err error)) work.rest refl tt stood),
       )
-  carries_at handed need reply (mades.Order place name kinds.Media media now answer) work earlier waiting next made stands =
-      let notes = mades.Order place name kinds.Media media now answer ∷ earlier in
-      let carried = media_act made.0 made.4 in
-      let passing = places.Passing name (acts.Media carried.0) in
-      let here : work.place ≡ places.Passing name (acts.Media carried.0) =
+  carries_at handed need reply (mades.Order place name (commands.Media tt) media now answer) work earlier waiting next made
+      stands =
+      let notes = mades.Order place name (commands.Media tt) media now answer ∷ earlier in
+      let carried = media_command made.0 made.4 in
+      let passing = places.Passing name (commands.Media carried.0) in
+      let here : work.place ≡ places.Passing name (commands.Media carried.0) =
       media_place work.place name carried.0
-      (next ∙ ap Some (made.1 ∙ ap (λ (act : Act). needs.Order name act) carried.1)) in
-      let stood = there waiting earlier work (places.Passing name (acts.Media carried.0)) here stands in
+      (next ∙ ap Some (made.1 ∙ ap (λ (command : Command MediaSpan). needs.Order name command) carried.1)) in
+      let stood = there waiting earlier work (places.Passing name (commands.Media carried.0)) here stands in
       let passes : PassesOn call.octets earlier waiting work.rest.onward name media = record {
         leg = stood.0;
         span = carried.0;
@@ -167,12 +167,12 @@ module _ (call : Call) (peer : ℕ) where
         waits = stood.3.1;
         before = stood.1;
         named = stood.2;
-        media_is = made.5 ∙ ap (λ (act : Act). octets_of (act_media act call.octets)) carried.1;
+        media_is = made.5 ∙ ap (λ (command : Command MediaSpan). media_over command call.octets) carried.1;
       } in (
         work.rest.onward,
         (made.3, passes),
         told_so (Here work.rest.onward notes) work passing reply (replies.Order (done_of answer)) here made.2
-            (passed peer call.octets work.rest.onward notes (replies.Order (done_of answer)) name (acts.Media carried.0)
+            (passed peer call.octets work.rest.onward notes (replies.Order (done_of answer)) name (commands.Media carried.0)
             work.rest (all_left work.rest.onward)),
       )
   carries_at handed need reply (mades.Order place name kind media now answer) work earlier waiting next made stands = (
@@ -220,7 +220,7 @@ given_at before = 0
 none_at : (octets : List ℕ) (earlier : List Made) (step : Made) (one other : Signals)
     → CarriesAt 0 octets earlier [] step one → CarriesAt 1 octets earlier [] step other
     → (one ≡ []) × (other ≡ []) × IsNoMedia step
-none_at octets earlier (mades.Order place name kinds.Media media now answer) one other carries also =
+none_at octets earlier (mades.Order place name (commands.Media tt) media now answer) one other carries also =
     absurd (no_element carries.1.passed_over one (carries.1.leg, signals.Media carries.1.span) carries.1.waits)
 none_at octets earlier (mades.Order place name kind media now answer) one other carries also =
     (carries.1, also.1, ((λ same. let is = same in cc), carries.0))

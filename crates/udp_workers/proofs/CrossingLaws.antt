@@ -4,7 +4,7 @@ use Rattle.std.proofs.Common.{Some, Ok, Err, length, refl, sym, subst, ◌∙◌
 use Rattle.std.specs.Prelude.{Contains}
 use Rattle.std.specs.List.{AllByRecursion}
 use Rattle.call_book.specs.declared.leg_name.LegName.{LegName}
-use Rattle.call_signals.specs.declared.order.OrderKind.TheVariants as kinds
+use Rattle.call_signals.specs.declared.order.Command.TheVariants as commands
 use Rattle.call_signals.specs.declared.signal.MediaSpan.{MediaSpan}
 use Rattle.call_signals.specs.declared.signal.Signal.{Signal}
 use Rattle.call_signals.specs.declared.signal.Signal.TheVariants as signals
@@ -179,8 +179,8 @@ module _ (within : (first : ℕ) (peer : PeerView) (octets : List ℕ) (datagram
       quiet full octets at at place (mades.OpenIn other name head payload now challenge (Err error) onwards) further refl
       (omega arith)
       (subst (λ (s : Signals). Waits (length octets) at s) (sym carries.2) (none_wait (length octets) at [] tt))
-  onward (mades.Order other name kinds.Media media now (Ok step)) earlier waiting further at old new found begun waits carries
-      leads =
+  onward (mades.Order other name (commands.Media tt) media now (Ok step)) earlier waiting further at old new found begun waits
+      carries leads =
       let passing = passes full octets at earlier waiting further name media found waits carries.1 in
       record {
         next = passing.0.end;
@@ -189,11 +189,11 @@ module _ (within : (first : ℕ) (peer : PeerView) (octets : List ℕ) (datagram
             obeyed full octets at (is_at place (Some other)) (record { name = name; media = media }) passing.0 others passing.1
             spans;
       }
-  onward (mades.Order other name kinds.Media media now (Err error)) earlier waiting further at old new found begun waits carries
-      leads =
+  onward (mades.Order other name (commands.Media tt) media now (Err error)) earlier waiting further at old new found begun waits
+      carries leads =
       let passing = passes full octets at earlier waiting further name media found waits carries.1 in
       let le : at ≤ passing.0.end = omega (arith, passing.1.behind, passing.1.forward) in
-      quiet full octets at passing.0.end place (mades.Order other name kinds.Media media now (Err error)) further refl le
+      quiet full octets at passing.0.end place (mades.Order other name (commands.Media tt) media now (Err error)) further refl le
       passing.2
   onward (mades.Order other name kind media now (Ok step)) earlier waiting further at old new found begun waits carries leads =
       quiet full octets at at place (mades.Order other name kind media now (Ok step)) further refl (omega arith)

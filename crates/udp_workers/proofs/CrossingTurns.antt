@@ -5,8 +5,8 @@ use Rattle.std.specs.List.{AllByRecursion}
 use Rattle.std.proofs.lemmas.Bool.{cases_Bool}
 use Rattle.std.proofs.lemmas.List.{append_cancel_left}
 use Rattle.call_book.specs.declared.leg_name.LegName.{LegName}
-use Rattle.call_signals.specs.declared.order.OrderKind.{OrderKind}
-use Rattle.call_signals.specs.declared.order.OrderKind.TheVariants as kinds
+use Rattle.call_signals.specs.Order.{Kind}
+use Rattle.call_signals.specs.declared.order.Command.TheVariants as commands
 use Rattle.step_log.specs.Followed.{Follow, place_of}
 use Rattle.step_log.specs.Notes.{Noted, note}
 use Rattle.step_log.specs.Trails.{OrderedMedia, is_at, media_at, media_by, media_in}
@@ -58,8 +58,8 @@ parts old mid new trail one other noted first second =
 
 -- ---- no media
 
-none_by : (kind : OrderKind) (name : LegName) (media : List ℕ) → kind ≢ kinds.Media → media_by kind name media ≡ []
-none_by kinds.Media name media not = absurd (not refl)
+none_by : (kind : Kind) (name : LegName) (media : List ℕ) → kind ≢ commands.Media tt → media_by kind name media ≡ []
+none_by (commands.Media tt) name media not = absurd (not refl)
 none_by kind name media not = refl
 
 none_in : (made : Made) → IsNoMedia made → media_in made ≡ []

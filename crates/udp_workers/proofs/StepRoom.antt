@@ -3,14 +3,14 @@ use Rattle.std.proofs.Common.{◌≡◌, ◌≤◌, ℕ, ◌==◌, Bool, true, f
 use Rattle.std.proofs.Common.{None, Some, Ok, Err, length, refl, sym, ap, subst}
 use Rattle.std.proofs.Common.{arith}
 use Rattle.call_book.specs.declared.leg_name.LegName.{LegName}
-use Rattle.call_signals.specs.declared.order.OrderKind.{OrderKind}
-use Rattle.call_signals.specs.declared.order.OrderKind.TheVariants as kinds
-use Rattle.call_control.specs.Act.{act_kind}
-use Rattle.call_control.specs.DatagramsLeft.{OpensFew, act_puts, brought_by, is_first, need_puts}
+use Rattle.call_signals.specs.Order.{kind_of, Kind}
+use Rattle.call_signals.specs.declared.order.Command.TheVariants as commands
+use Rattle.call_control.specs.DatagramsLeft.{OpensFew, brought_by, command_puts, is_first, need_puts}
 use Rattle.call_control.specs.DatagramsLeft.{signals_put, step_puts, touched_puts}
 use Rattle.call_control.specs.Work.{at, next_at}
 use Rattle.call_control.specs.WorkState.{offer_in}
-use Rattle.call_control.specs.declared.act.Act.{Act}
+use Rattle.call_signals.specs.declared.order.Command.{Command}
+use Rattle.call_signals.specs.declared.signal.MediaSpan.{MediaSpan}
 use Rattle.call_control.specs.declared.need.Need.{Need}
 use Rattle.call_control.specs.declared.need.Need.TheVariants as needs
 use Rattle.call_control.specs.declared.place.Place.{Place}
@@ -61,19 +61,20 @@ next_later (places.Datagram peer) first = cc
 next_later (places.Tick peer) first = cc
 next_later place first = refl
 
-order_same : (kind : OrderKind) (octets : ℕ) → (order_load kind octets).datagrams ≡ (order_load kind 0).datagrams
-order_same (kinds.Accept format) octets = refl
-order_same (kinds.Reject cause) octets = refl
-order_same (kinds.Indicate indication) octets = refl
-order_same kinds.Answer octets = refl
-order_same (kinds.Dtmf digit) octets = refl
-order_same kinds.Media octets = refl
-order_same (kinds.Hangup cause) octets = refl
-order_same (kinds.Doom cause) octets = refl
-order_same kinds.Paid octets = refl
+order_same : (kind : Kind) (octets : ℕ) → (order_load kind octets).datagrams ≡ (order_load kind 0).datagrams
+order_same (commands.Accept format) octets = refl
+order_same (commands.Reject cause) octets = refl
+order_same (commands.Indicate indication) octets = refl
+order_same commands.Answer octets = refl
+order_same (commands.Dtmf digit) octets = refl
+order_same (commands.Media _) octets = refl
+order_same (commands.Hangup cause) octets = refl
+order_same (commands.Doom cause) octets = refl
+order_same commands.Paid octets = refl
 
-order_few : (kind : OrderKind) (act : Act) (octets : ℕ) → kind ≡ act_kind act → (order_load kind octets).datagrams ≤ act_puts act
-order_few kind act octets is = omega (arith, order_same kind octets, ap (λ (k : OrderKind). (order_load k 0).datagrams) is)
+order_few : (kind : Kind) (command : Command MediaSpan) (octets : ℕ) → kind ≡ kind_of command
+    → (order_load kind octets).datagrams ≤ command_puts command
+order_few kind command octets is = omega (arith, order_same kind octets, ap (λ (k : Kind). (order_load k 0).datagrams) is)
 
 -- a step that puts nothing and brings nothing
 idle : (need : Need) (reply : Reply) → OpensFew reply → brought_by reply ≡ 0 → StepFew no_load need reply
@@ -83,7 +84,7 @@ idle need reply opens brings = record { few = omega arith; opens = opens; brings
 unasked_few : (call : Call) (handed : Option HandedUp) (need : Need) (reply : Reply) → IsUnasked call (offer_in handed) need reply
     → StepFew no_load need reply
 unasked_few call handed (needs.OpenOut name) reply is = as_is no_load _ (needs.OpenOut name) reply _ refl is.0 (idle _ _ tt refl)
-unasked_few call handed (needs.Order name act) reply is = as_is no_load _ (needs.Order name act) reply _ refl is.0
+unasked_few call handed (needs.Order name command) reply is = as_is no_load _ (needs.Order name command) reply _ refl is.0
     (idle _ _ tt refl)
 unasked_few call handed (needs.Look peer number) reply is = as_is no_load _ (needs.Look peer number) reply _ refl is.0
     (idle _ _ tt refl)
@@ -138,13 +139,13 @@ module _ (opening : (peer : PeerView) (name : LegName) (frame : FullFrame) (now 
   made_few call handed need reply (mades.Order peer name kind media now (Ok step)) place old new leads is later =
       as_is _ need (needs.Order name is.0) reply (replies.Order (Ok tt)) is.1 is.2
       (record {
-        few = at_most place peer (order_load kind (length media)) (act_puts is.0) (order_few kind is.0 (length media) is.4);
+        few = at_most place peer (order_load kind (length media)) (command_puts is.0) (order_few kind is.0 (length media) is.4);
         opens = tt;
         brings = refl;
       })
   made_few call handed need reply (mades.Order peer name kind media now (Err error)) place old new leads is later =
       as_is _ need (needs.Order name is.0) reply (replies.Order (Err error)) is.1 is.2
-      (record { few = at_most place peer no_load (act_puts is.0) (omega arith); opens = tt; brings = refl })
+      (record { few = at_most place peer no_load (command_puts is.0) (omega arith); opens = tt; brings = refl })
   made_few call handed need reply (mades.Retire peer name (Some leg)) place old new leads is later =
       as_is _ need (needs.Retire name) reply (replies.Retire true) is.0 is.1
       (record { few = at_most place peer no_load 0 (omega arith); opens = tt; brings = refl })

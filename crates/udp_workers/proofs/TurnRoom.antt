@@ -9,14 +9,10 @@ use Rattle.call_book.specs.declared.errors.ReserveError.TheVariants as reserve_e
 use Rattle.call_book.specs.declared.leg_name.LegName.{LegName}
 use Rattle.call_signals.specs.Codes.{FRAME_IAX, IAX_VNAK}
 use Rattle.call_signals.specs.Message.{is_vnak, message_of}
-use Rattle.call_signals.specs.declared.order.OrderKind.{OrderKind}
-use Rattle.call_signals.specs.declared.order.OrderKind.TheVariants as kinds
-use Rattle.call_control.specs.Act.{act_kind}
-use Rattle.call_control.specs.DatagramsLeft.{OpensFew, act_puts, brought_by, datagrams_left, heard_puts, is_first, need_puts}
+use Rattle.call_control.specs.DatagramsLeft.{OpensFew, brought_by, datagrams_left, heard_puts, is_first, need_puts}
 use Rattle.call_control.specs.DatagramsLeft.{signals_put, step_puts, touched_puts}
 use Rattle.call_control.specs.Work.{Work, after_told, at, next_at, next_of, nothing_left, of_datagram}
 use Rattle.call_control.specs.WorkState.{WorkState, begun, offer_in}
-use Rattle.call_control.specs.declared.act.Act.{Act}
 use Rattle.call_control.specs.declared.need.Need.{Need}
 use Rattle.call_control.specs.declared.need.Need.TheVariants as needs
 use Rattle.call_control.specs.declared.place.Place.{Place}

@@ -1,7 +1,7 @@
 -- Media crosses only its own call, by the notes of the steps that a datagram brings ("Mini Frames", "Meta Frames").
 use Rattle.std.specs.Prelude.{◌≡◌, ◌≢◌, ◌⊎◌, ℕ, List, [], ◌∷◌, ◌++◌, Result, Ok, Err, Some, option_map, slice_get, slice_range}
 use Rattle.call_book.specs.declared.leg_name.LegName.{LegName}
-use Rattle.call_signals.specs.declared.order.OrderKind.TheVariants as kinds
+use Rattle.call_signals.specs.declared.order.Command.TheVariants as commands
 use Rattle.call_signals.specs.declared.signal.MediaSpan.{MediaSpan}
 use Rattle.call_signals.specs.declared.signal.Signal.{Signal}
 use Rattle.call_signals.specs.declared.signal.Signal.TheVariants as signals
@@ -49,7 +49,7 @@ CarriesAt peer octets earlier waiting (mades.Datagram place received now answer 
     (place ≡ peer) × (received ≡ octets) × (earlier ≡ []) × (further ≡ handed_up answer onwards)
 CarriesAt peer octets earlier waiting (mades.OpenIn place name head payload now challenge answer onwards) further =
     (place ≡ name.peer) × NeededName peer octets earlier name × (further ≡ handed_up answer onwards)
-CarriesAt peer octets earlier waiting (mades.Order place name kinds.Media media now answer) further =
+CarriesAt peer octets earlier waiting (mades.Order place name (commands.Media tt) media now answer) further =
     (place ≡ name.peer) × PassesOn octets earlier waiting further name media
 CarriesAt peer octets earlier waiting (mades.Order place name kind media now answer) further = (media ≡ []) × (further ≡ waiting)
 CarriesAt peer octets earlier waiting note further = further ≡ waiting
@@ -63,7 +63,7 @@ Carries peer octets earlier waiting (note ∷ rest) =
 
 -- a note that isn't of an order with media
 abbrev pub IsNoMedia : Made → Type 0
-IsNoMedia (mades.Order place name kind media now answer) = (kind ≢ kinds.Media) × (media ≡ [])
+IsNoMedia (mades.Order place name kind media now answer) = (kind ≢ commands.Media tt) × (media ≡ [])
 IsNoMedia note = Unit {0}
 
 -- what was noted is the call of a datagram with these octets at this peer; no signal waits when it begins

@@ -23,11 +23,12 @@ returns c =
           (opens_out peer name number caller format now).peer.legs name leased
           (are_seen.calls_out peer name number caller format now are free);
       refused_calls_out = λ legs name error scene called sees. nothing_changed scene called legs sees (RefusesOpening error) refl;
-      orders = λ peer credit name act order now scene called are is same none sees. order_is scene called peer.legs sees name is
-          (ordered_step peer name order now).legs act (subst (Obeys peer.legs (ordered_step peer name order now).legs name) same
+      orders = λ peer credit name command order now scene called are is same none sees. order_is scene called peer.legs sees name
+          is (ordered_step peer name order now).legs command
+          (subst (Obeys peer.legs (ordered_step peer name order now).legs name) same
           (are_seen.orders peer credit name order now are none));
-      refused_orders = λ peer credit name act order now error scene called are is same refused wants sees. refusal_is scene called
-          peer.legs sees name is act error (subst (λ kind. IsSeenRefusal peer.legs name kind error) same
+      refused_orders = λ peer credit name command order now error scene called are is same refused wants sees. refusal_is scene
+          called peer.legs sees name is command error (subst (λ kind. IsSeenRefusal peer.legs name kind error) same
           (are_seen.refusals peer credit name order now error are refused wants));
       ticks = λ old new now report scene called are ticks sees. tick_is scene called old.legs sees new.legs report.is_quiet
           (are_seen.ticks old new now report are ticks);

@@ -1,17 +1,17 @@
 //! The steps of peers without locks.
-ghost use Rattle.std.specs.Prelude.{◌≡◌, IfSome, IsTrue};
+ghost use Rattle.std.specs.Prelude.{◌≡◌, length, IfSome, IsTrue};
+ghost use Rattle.call_signals.specs.Order.{media_of};
 ghost use Rattle.leg_machine.specs.OrderTable.{IsShortMedia};
 ghost use Rattle.peer_lock.specs.Openings.{IsOpening};
-ghost use Rattle.peer_lock.specs.Orders.{order_octets};
 ghost use Rattle.peer_lock.specs.Unworked.{IsCutFrame};
 
 use crate::tests::steps_by_hand::made::{Given, Gone};
 use crate::tests::steps_by_hand::plain::Plain;
 use call_book::{LegName, PeerId};
-use call_control::{Act, Need, Reply, StepReply, Work};
+use call_control::{Need, Reply, StepReply, Work};
 use iax_frames::{Datagram, Full, read};
 use info_elements::elements;
-use leg_machine::{Caller, Formats, Message, Order};
+use leg_machine::{Caller, Command, Formats, MediaSpan, Message, Order, order_of};
 use peer_lock::{LedgerSet, Offer, Onwards, OpenError, OrderError, PeerError, RejectError};
 use peer_plan::Plan;
 use std::process::Abort;
@@ -44,21 +44,6 @@ fn opening_of(octets: &[u8]) -> Option<Full<'_>>
     }
 }
 
-// Returns the order of an act. Media is a span of the datagram.
-fn order_of<'a>(rt: &impl Abort, act: Act, octets: &'a [u8]) -> Order<'a> {
-    match act {
-        Act::Accept(format) => Order::Accept(format),
-        Act::Reject(cause) => Order::Reject(cause),
-        Act::Indicate(indication) => Order::Indicate(indication),
-        Act::Answer => Order::Answer,
-        Act::Dtmf(digit) => Order::Dtmf(digit),
-        Act::Media(span) => { Order::Media(octets.get(span.start..span.end).expect(rt, "media")) }
-        Act::Hangup(cause) => Order::Hangup(cause),
-        Act::Doom(cause) => Order::Doom(cause),
-        Act::Paid => Order::Paid,
-    }
-}
-
 /// Returns the formats of a peer.
 pub fn formats_of(rt: &impl Abort, plan: &Plan, peer: u16) -> Formats {
     assert!(rt; peer < plan.peer_count(), "a peer of the plan");
@@ -67,7 +52,7 @@ pub fn formats_of(rt: &impl Abort, plan: &Plan, peer: u16) -> Formats {
 
 // Counts the octets of media in an order: none, or 1 to 1,380.
 fn octets_in(rt: &impl Abort, order: &Order<'_>) -> u64
-    ensures octets { result ≡ order_octets order.now }
+    ensures octets { result ≡ length (media_of order.now) }
     ensures short { IsShortMedia order.now }
 {
     match order {
@@ -163,10 +148,15 @@ impl<J: LedgerSet> Plain<'_, J> {
         &mut self,
         rt: &impl Abort,
         name: LegName,
-        act: Act,
+        command: Command<MediaSpan>,
         given: &Given<'_>,
     ) -> Result<(), OrderError> {
-        let order = order_of(rt, act, given.octets);
+        let order = match &command {
+            Command::Media(span) => {
+                Order::Media(given.octets.get(span.start..span.end).expect(rt, "media"))
+            }
+            other => order_of(other, given.octets),
+        };
         let octets = octets_in(rt, &order);
         assert!(rt; octets <= self.pass.octets(), "credit for media");
         let (state, pass) = (self.peers.at(name.peer), &mut self.pass);
@@ -198,7 +188,7 @@ impl<J: LedgerSet> Plain<'_, J> {
             Need::OpenOut(name) => {
                 Reply::OpenOut(self.opens_out(rt, name.peer, work.offer(), given))
             }
-            Need::Order(name, act) => Reply::Order(self.orders(rt, name, act, given)),
+            Need::Order(name, command) => Reply::Order(self.orders(rt, name, command, given)),
             Need::Tick(peer) => {
                 let report = self.peers.at(peer.get()).tick(&mut self.pass, given.now);
                 Reply::Tick(report.map(|report| report.is_quiet))

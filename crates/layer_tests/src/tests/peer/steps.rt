@@ -1,6 +1,6 @@
 //! The events of a peer, step by step.
-ghost use Rattle.std.specs.Prelude.{◌≡◌};
-ghost use Rattle.peer_lock.specs.Orders.{order_octets};
+ghost use Rattle.std.specs.Prelude.{◌≡◌, length};
+ghost use Rattle.call_signals.specs.Order.{media_of};
 
 use crate::tests::leg::{Wish, octets_of, order_of};
 use crate::tests::peer::desk::{Desk, opening_of};
@@ -37,7 +37,7 @@ pub enum Step {
 
 // Returns the octets of an order's media.
 fn octets_in(order: &Order<'_>) -> u64
-    ensures { result ≡ order_octets order.now }
+    ensures { result ≡ length (media_of order.now) }
 {
     match order {
         Order::Media(octets) => octets.len() as u64,
@@ -119,7 +119,7 @@ impl<J: LedgerSet> Desk<J> {
     // Gives an order to the leg.
     fn orders(&mut self, time: u64, order: &Order<'_>) -> Result<Stepped, OrderError>
         requires media { IsShortMedia order.now }
-        requires credit { order_octets order.now ≤ self.old.pass.octets }
+        requires credit { length (media_of order.now) ≤ self.old.pass.octets }
         ensures { OnErr result (self.new.pass.octets ≡ self.old.pass.octets) }
     {
         let Some(status) = self.state.look(1) else {
