@@ -1,4 +1,4 @@
-pub mod Command
+pub mod Operation
 pub mod Digits
 pub mod Members
 pub mod Placing

@@ -4,7 +4,7 @@ use Rattle.serde_json.specs.Data.{Data, object, member, no_members, string}
 use Rattle.serde_json.specs.Written.{compact_text}
 use Rattle.control_requests.specs.declared.response.StatusCode.{StatusCode}
 use Rattle.control_requests.specs.declared.response.StatusCode.TheVariants as status
-use Rattle.control_requests.specs.declared.command.Methods.{Methods}
+use Rattle.control_requests.specs.declared.operation.Methods.{Methods}
 
 abbrev pub code_of : StatusCode → ℕ
 code_of status.Ok = 200

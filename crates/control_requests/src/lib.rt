@@ -2,17 +2,17 @@
 //! waits, reads or writes.
 #![tactic(auto)]
 
-mod command;
 mod digits;
 mod json_text;
 pub mod laws;
+mod operation;
 mod placing;
 mod request;
 mod response;
 mod tables;
 mod views;
 
-pub use command::{Command, Methods, NoCommand, command_of};
+pub use operation::{Methods, Operation, OperationError, operation_of};
 pub use placing::{PlaceFault, PlaceOrder, place_of};
 pub use request::{BODY_LIMIT, FIELD_LIMIT, HEAD_LIMIT, Reading, Request, read_request};
 pub use response::{Response, StatusCode};

@@ -3,8 +3,8 @@ ghost use Rattle.std.specs.Prelude.{◌≡◌, IfOk, string_bytes};
 ghost use Rattle.serde_json.specs.Written.{compact_text};
 ghost use Rattle.control_requests.specs.Response.{code_of, reason_of, allow_line, error_data, response_text};
 
-use crate::command::Methods;
 use crate::json_text::{Shown, object_text};
+use crate::operation::Methods;
 use std::alloc::{AllocError, Global};
 
 /// The status code of a response.

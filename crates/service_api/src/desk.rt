@@ -5,8 +5,8 @@ use crate::legs::{find_leg, serial_at_rest};
 use crate::showing::{ShownLeg, push_calls};
 use call_book::LegName;
 use control_requests::{
-    AccountsRow, Command, NoCommand, PeerRow, PlaceFault, PlaceOrder, Request, Response, Rows,
-    StatusCode, accounts_body, call_body, command_of, place_of,
+    AccountsRow, Operation, OperationError, PeerRow, PlaceFault, PlaceOrder, Request, Response,
+    Rows, StatusCode, accounts_body, call_body, operation_of, place_of,
 };
 use exchange_core::{CallError, Exchange, NoGate, Pass};
 use exchange_report::{PeerLosses, call_error_name, count_legs, losses_of, peer_named};
@@ -65,14 +65,14 @@ impl<'x, J: LedgerSet> ApiHandler<'x, J> {
         request: &Request<'_>,
         now: u64,
     ) -> Result<Response, AllocError> {
-        match command_of(request.method, request.path) {
-            Ok(Command::Table) => answered(alloc, StatusCode::Ok, TABLE),
-            Ok(Command::Peers) => self.peers(rt, alloc, now),
-            Ok(Command::Calls) => self.calls(rt, alloc, now),
-            Ok(Command::Call(number)) => self.call(rt, alloc, number, now),
-            Ok(Command::Accounts) => self.accounts(rt, alloc),
-            Ok(Command::Place) => self.place(rt, alloc, request.body, now),
-            Ok(Command::HangUp(number)) => match find_leg(
+        match operation_of(request.method, request.path) {
+            Ok(Operation::Table) => answered(alloc, StatusCode::Ok, TABLE),
+            Ok(Operation::Peers) => self.peers(rt, alloc, now),
+            Ok(Operation::Calls) => self.calls(rt, alloc, now),
+            Ok(Operation::Call(number)) => self.call(rt, alloc, number, now),
+            Ok(Operation::Accounts) => self.accounts(rt, alloc),
+            Ok(Operation::Place) => self.place(rt, alloc, request.body, now),
+            Ok(Operation::HangUp(number)) => match find_leg(
                 rt,
                 self.exchange,
                 &mut self.pass,
@@ -81,23 +81,27 @@ impl<'x, J: LedgerSet> ApiHandler<'x, J> {
                 Some((_, name)) => self.drop_call(rt, alloc, name, now),
                 None => Response::error(alloc, StatusCode::NotFound, "NoLeg"),
             },
-            Ok(Command::Stop) => {
+            Ok(Operation::Stop) => {
                 self.watch.lifecycle().stop();
                 answered(alloc, StatusCode::Accepted, "{}")
             }
-            Ok(Command::StopGracefully) => {
+            Ok(Operation::StopGracefully) => {
                 self.watch.lifecycle().stop_gracefully();
                 self.set_draining(rt, true, now);
                 self.drained(alloc, rt)
             }
-            Ok(Command::Drain) => {
+            Ok(Operation::Drain) => {
                 self.watch.lifecycle().drain(true);
                 self.set_draining(rt, true, now);
                 self.drained(alloc, rt)
             }
-            Ok(Command::EndDrain) => self.end_drain(rt, alloc, now),
-            Err(NoCommand::NotFound) => Response::error(alloc, StatusCode::NotFound, "NotFound"),
-            Err(NoCommand::NotAllowed(methods)) => {
+            Ok(Operation::EndDrain) => self.end_drain(rt, alloc, now),
+            Err(OperationError::NotFound) => Response::error(
+                alloc,
+                StatusCode::NotFound,
+                "NotFound",
+            ),
+            Err(OperationError::NotAllowed(methods)) => {
                 Response::error(alloc, StatusCode::NotAllowed(methods), "NotAllowed")
             }
         }

@@ -1,5 +1,5 @@
 use Rattle.std.proofs.Common.{rules}
-use Rattle.control_requests.proofs.command.command_of.Goals as goal
+use Rattle.control_requests.proofs.operation.operation_of.Goals as goal
 
 pub returns-in-None : goal.returns-in-None
 returns-in-None c = search rules

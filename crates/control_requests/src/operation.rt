@@ -1,13 +1,13 @@
-//! The commands that requests name.
+//! The operations of the control socket, by the method and the path of a request.
 ghost use Rattle.std.specs.Prelude.{◌≡◌, Some, None};
-ghost use Rattle.control_requests.specs.Command.{call_number, call_row, row_of, command_by, methods_of, command_at};
+ghost use Rattle.control_requests.specs.Operation.{call_number, call_row, row_of, operation_by, methods_of, operation_at};
 
 use crate::digits::number_up_to;
 
-/// The command of a client's request.
+/// The operation of a client's request.
 #[derive(Clone, Copy)]
-pub enum Command {
-    /// `GET /`: the list of commands.
+pub enum Operation {
+    /// `GET /`: the list of operations.
     Table,
     /// `GET /peers`
     Peers,
@@ -39,21 +39,21 @@ pub struct Methods {
     pub delete: bool,
 }
 
-/// The reason why a request names no command.
+/// The reason why a request names no operation.
 #[derive(Clone, Copy, Debug, PartialEq, Eq)]
-pub enum NoCommand {
+pub enum OperationError {
     /// The path doesn't exist. A path with a query doesn't either.
     NotFound,
     /// The path has these methods, and not this one.
     NotAllowed(Methods),
 }
 
-// The command of each method at a path.
+// The operation of each method at a path.
 #[derive(Clone, Copy)]
 pub(crate) struct Row {
-    pub get: Option<Command>,
-    pub post: Option<Command>,
-    pub delete: Option<Command>,
+    pub get: Option<Operation>,
+    pub post: Option<Operation>,
+    pub delete: Option<Operation>,
 }
 
 fn call_number(digits: &[u8]) -> Option<u16>
@@ -73,13 +73,13 @@ fn call_row(path: &[u8]) -> Option<Row>
 {
     let number = call_number(path.strip_prefix(b"/calls/")?)?;
     Some(Row {
-        get: Some(Command::Call(number)),
+        get: Some(Operation::Call(number)),
         post: None,
-        delete: Some(Command::HangUp(number)),
+        delete: Some(Operation::HangUp(number)),
     })
 }
 
-fn listed(get: Option<Command>, post: Option<Command>) -> Option<Row>
+fn listed(get: Option<Operation>, post: Option<Operation>) -> Option<Row>
     ensures { result ≡ Some (record { get = get; post = post; delete = None }) }
 {
     Some(Row {
@@ -93,30 +93,30 @@ fn row_of(path: &str) -> Option<Row>
     ensures { result ≡ row_of path.now }
 {
     if path == "/" {
-        listed(Some(Command::Table), None)
+        listed(Some(Operation::Table), None)
     } else if path == "/peers" {
-        listed(Some(Command::Peers), None)
+        listed(Some(Operation::Peers), None)
     } else if path == "/calls" {
-        listed(Some(Command::Calls), Some(Command::Place))
+        listed(Some(Operation::Calls), Some(Operation::Place))
     } else if path == "/accounts" {
-        listed(Some(Command::Accounts), None)
+        listed(Some(Operation::Accounts), None)
     } else if path == "/stop" {
-        listed(None, Some(Command::Stop))
+        listed(None, Some(Operation::Stop))
     } else if path == "/stop/graceful" {
-        listed(None, Some(Command::StopGracefully))
+        listed(None, Some(Operation::StopGracefully))
     } else if path == "/drain" {
         Some(Row {
             get: None,
-            post: Some(Command::Drain),
-            delete: Some(Command::EndDrain),
+            post: Some(Operation::Drain),
+            delete: Some(Operation::EndDrain),
         })
     } else {
         call_row(path.as_bytes())
     }
 }
 
-fn command_by(row: Row, method: &str) -> Option<Command>
-    ensures { result ≡ command_by row method.now }
+fn operation_by(row: Row, method: &str) -> Option<Operation>
+    ensures { result ≡ operation_by row method.now }
 {
     match method {
         "GET" => row.get,
@@ -136,18 +136,18 @@ fn methods_of(row: Row) -> Methods
     }
 }
 
-/// Returns the command that a method and a path name, by a table with one row for each path.
+/// Returns the operation that a method and a path name, by a table with one row for each path.
 ///
 /// Returns `NotFound` if the path doesn't exist or has a query, and `NotAllowed` with the path's methods if this isn't one
 /// of them.
-pub fn command_of(method: &str, path: &str) -> Result<Command, NoCommand>
-    ensures table { result ≡ command_at method.now path.now }
+pub fn operation_of(method: &str, path: &str) -> Result<Operation, OperationError>
+    ensures table { result ≡ operation_at method.now path.now }
 {
     let Some(row) = row_of(path) else {
-        return Err(NoCommand::NotFound);
+        return Err(OperationError::NotFound);
     };
-    match command_by(row, method) {
-        Some(command) => Ok(command),
-        None => Err(NoCommand::NotAllowed(methods_of(row))),
+    match operation_by(row, method) {
+        Some(operation) => Ok(operation),
+        None => Err(OperationError::NotAllowed(methods_of(row))),
     }
 }

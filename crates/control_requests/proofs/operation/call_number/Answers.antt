@@ -1,5 +1,5 @@
 use Rattle.std.proofs.Common.{rules}
-use Rattle.control_requests.proofs.command.call_number.Goals as goal
+use Rattle.control_requests.proofs.operation.call_number.Goals as goal
 
 pub returns-in-Some : goal.returns-in-Some
 returns-in-Some c = search rules

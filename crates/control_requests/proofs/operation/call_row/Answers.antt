@@ -1,5 +1,5 @@
 use Rattle.std.proofs.Common.{rules}
-use Rattle.control_requests.proofs.command.call_row.Goals as goal
+use Rattle.control_requests.proofs.operation.call_row.Goals as goal
 
 pub returns : goal.returns
 returns c = search rules
