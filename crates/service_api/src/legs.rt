@@ -19,7 +19,7 @@ fn is_open(stage: Stage) -> bool {
     }
 }
 
-// Reports the legs that an order of a client took out. Its place in the trace is behind the workers.
+// Reports the legs that an order of a client took out. Its thread comes behind the workers.
 fn tell_retired(watch: &ServiceWatch, workers: usize, legs: &[Retired]) {
     let thread = u16::try_from(workers).unwrap_or(u16::MAX);
     for leg in legs {

@@ -2,7 +2,6 @@
 use crate::authentication::AuthFailure;
 use crate::reasons::REASONS;
 use exchange_core::{Refusal, Rejection};
-use peer_plan::WorkerId;
 use std::alloc::{AllocError, Global};
 use std::iter;
 use std::sync::atomic::{AtomicU64, Ordering};
@@ -45,8 +44,6 @@ struct RefusalCount {
 // The counters of a peer since the service began, modulo 2^64.
 #[derive(Drop)]
 pub(crate) struct PeerMarks {
-    // The worker that serves it.
-    pub(crate) worker: WorkerId,
     // The moment of its last datagram plus 1, in milliseconds; 0 if there was none.
     pub(crate) heard: AtomicU64,
     pub(crate) received: AtomicU64,
@@ -106,9 +103,8 @@ fn reason_counts(alloc: Global) -> Result<Vec<AtomicU64>, AllocError> {
 
 impl PeerMarks {
     // Returns the counters of a peer before its first datagram.
-    pub(crate) fn new(alloc: Global, worker: WorkerId) -> Result<PeerMarks, AllocError> {
+    pub(crate) fn new(alloc: Global) -> Result<PeerMarks, AllocError> {
         Ok(PeerMarks {
-            worker,
             heard: AtomicU64::new(0),
             received: AtomicU64::new(0),
             refused: AtomicU64::new(0),

@@ -87,9 +87,8 @@ fn room_of(
     plan: &Plan,
 ) -> Result<(Vec<PeerMarks>, Vec<Endpoint>, WakerTable), AllocError> {
     let mut peers = Vec::new(alloc);
-    for place in 0..plan.peer_count() {
-        let peer = PeerId::new(place);
-        let marks = PeerMarks::new(alloc, plan.worker(peer))?;
+    for _ in 0..plan.peer_count() {
+        let marks = PeerMarks::new(alloc)?;
         if peers.push(marks).is_err() {
             return Err(AllocError);
         }
@@ -239,7 +238,7 @@ impl ServiceWatch {
             calls.hand_over(thread, call_row(leg, 0));
         }
         if let Some(trace) = &self.trace {
-            trace.retire(thread, leg.name.number);
+            trace.free(leg.name.number);
         }
     }
 
@@ -302,9 +301,6 @@ impl ServiceWatch {
         if let Some(marks) = self.peers.get(peer.index()) {
             count_one(&marks.refused);
             count_one(&marks.turned_away);
-            if let Some(trace) = &self.trace {
-                trace.turn_away(marks.worker.get());
-            }
         }
     }
 

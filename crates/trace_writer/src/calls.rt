@@ -65,9 +65,4 @@ impl Calls {
         }
         Some(counts / BEGUN)
     }
-
-    /// Returns the number of calls that have begun.
-    pub(crate) fn begun(&self) -> u64 {
-        self.counts.load(Ordering::SeqCst) / BEGUN
-    }
 }

@@ -13,9 +13,10 @@ const LONGEST: usize = 32 + 2049;
 
 /// A thread's own end of the trace.
 ///
-/// A worker reports the start of a turn and its end, each datagram before the exchange gets it, the ticks of its peers, and
-/// the datagrams that it sends. A call of the exchange is open until the next of these reports. A thread that gives orders
-/// reports the start and the end of each.
+/// A worker reports the start of a turn and its end, each datagram before the exchange gets it, and the ticks of its peers.
+/// It also reports a datagram that is turned away, a leg that is taken out, and each datagram that it sends. A call of the
+/// exchange is open until the next datagram, the ticks, the first sent datagram, or the end of the turn. A thread that gives
+/// orders reports the start and the end of each.
 ///
 /// Notes stay with the thread until the end of its turn or order. So it notes without a lock, and copies the octets of a
 /// datagram once. Then it hands the notes over.
@@ -30,8 +31,8 @@ pub struct TraceLane<'t> {
     // The number of calls that weren't noted since the last one that was.
     lost: u64,
     // The events of this turn.
-    is_in_turn: bool,
     has_received: bool,
+    has_retired: bool,
     peers: u32,
     untaken: u32,
     // The number of calls that had begun when a check for legs began.
@@ -49,8 +50,8 @@ impl<'t> Drop for TraceLane<'t> {
             noted: _,
             open: _,
             lost: _,
-            is_in_turn: _,
             has_received: _,
+            has_retired: _,
             peers: _,
             untaken: _,
             look: _,
@@ -86,8 +87,8 @@ impl<'t> TraceLane<'t> {
             noted: Batch::new(alloc)?,
             open: None,
             lost: 0,
-            is_in_turn: false,
             has_received: false,
+            has_retired: false,
             peers: 0,
             untaken: 0,
             look: None,
@@ -127,7 +128,7 @@ impl<'t> TraceLane<'t> {
             return self.trace.calls.begin();
         };
         let (is_beside, next) = self.trace.calls.follow(call);
-        self.note_end(input, is_beside);
+        self.noted.end_last(input, is_beside);
         next
     }
 
@@ -135,7 +136,7 @@ impl<'t> TraceLane<'t> {
     fn end(&mut self) {
         if let Some((call, input)) = self.open.take() {
             let is_beside = self.trace.calls.end(call);
-            self.note_end(input, is_beside);
+            self.noted.end_last(input, is_beside);
         }
     }
 
@@ -160,18 +161,6 @@ impl<'t> TraceLane<'t> {
         mark.input
     }
 
-    // Notes the end of the last call. Only now is it known whether its datagram was turned away.
-    #[inline(always)]
-    fn note_end(&mut self, input: Input, is_beside: bool) {
-        let input = match input {
-            Input::Datagram { peer, challenge } if self.trace.take_turned_away(self.thread) => {
-                Input::TurnedAway { peer, challenge }
-            }
-            _ => input,
-        };
-        self.noted.end_last(input, is_beside);
-    }
-
     // Continues the last batch that was handed over, if the writer hasn't taken it. So short turns don't use up the
     // batches.
     fn resume<R: Wait>(&mut self, rt: &R) {
@@ -185,26 +174,14 @@ impl<'t> TraceLane<'t> {
         }
     }
 
-    /// Begins a turn of the worker, unless one has begun. Its moment, in milliseconds since the exchange was opened, and
-    /// its challenge are those last reported to the trace.
-    #[inline(always)]
-    pub fn be_in_turn<R: Wait>(&mut self, rt: &R) {
-        if !self.is_in_turn {
-            self.begin_turn(rt);
-        }
-    }
-
-    // Begins a turn of the worker.
-    fn begin_turn<R: Wait>(&mut self, rt: &R) {
-        self.is_in_turn = true;
+    /// Begins a turn of the worker, at this moment, in milliseconds since the exchange was opened, with this challenge.
+    pub fn begin_turn<R: Wait>(&mut self, rt: &R, now: u64, challenge: &Challenge) {
         self.trace.begin_turn();
         self.resume(rt);
-        let (now, challenge) = self.trace.turn_of(rt, self.thread);
         self.now = now;
-        if let Some(challenge) = challenge {
-            self.challenge = challenge;
-        }
+        self.challenge = challenge.copied();
         self.has_received = false;
+        self.has_retired = false;
         self.peers = 0;
         self.untaken = 0;
     }
@@ -241,28 +218,23 @@ impl<'t> TraceLane<'t> {
         self.begin(rt, Input::Tick, b"", b"");
     }
 
-    // Notes the ticks of this turn if the worker couldn't report them before. It isn't known then whether other calls came
-    // between.
-    fn tick_if_none<R: Wait>(&mut self, rt: &R) {
-        if let Some((_, Input::Tick)) = self.open {
-            return;
-        }
-        let begun = match self.open {
-            Some((call, _)) => call.number.wrapping_add(1),
-            None => self.trace.calls.begun(),
-        };
-        self.begin(rt, Input::Tick, b"", b"");
-        if let Some((call, _)) = &mut self.open {
-            if call.number != begun {
-                call.is_beside = true;
+    /// Notes that the last datagram is turned away, not given to the exchange.
+    pub fn turn_away(&mut self) {
+        if let Some((_, input)) = &mut self.open {
+            if let Input::Datagram { peer, challenge } = *input {
+                *input = Input::TurnedAway { peer, challenge };
             }
         }
     }
 
-    /// Notes a datagram sent to a peer of the plan. `is_taken` is false if the socket lost it.
-    pub fn send<R: Wait>(&mut self, rt: &R, peer: PeerId, is_taken: bool) {
+    /// Notes that a leg was taken out in this turn.
+    pub fn retire(&mut self) {
+        self.has_retired = true;
+    }
+
+    /// Notes a datagram sent to a peer of the plan, after the ticks. `is_taken` is false if the socket lost it.
+    pub fn send(&mut self, peer: PeerId, is_taken: bool) {
         if self.peers == 0 {
-            self.tick_if_none(rt);
             self.end();
         }
         self.peers |= 1u32.wrapping_shl(u32::from(peer.get()));
@@ -274,25 +246,19 @@ impl<'t> TraceLane<'t> {
     /// Ends the turn. A turn in which nothing was received or sent, and no leg was taken out, isn't noted. If a leg was
     /// taken out, the last note is a send, so that the leg ends at the same place in a replay.
     pub fn end_turn<R: Wait>(&mut self, rt: &R) {
-        if !self.is_in_turn {
-            return;
-        }
-        let has_retired = self.trace.take_retired(self.thread);
         if self.peers == 0 {
-            self.tick_if_none(rt);
-            if !self.has_received && !has_retired {
+            if !self.has_received && !self.has_retired {
                 self.forget();
             }
             self.end();
         }
         // The script reports a retired leg at a send, so there is a send even without datagrams.
-        if self.peers != 0 || has_retired {
+        if self.peers != 0 || self.has_retired {
             let (peers, lost) = (self.peers, self.untaken);
             self.begin(rt, Input::Send { peers, lost }, b"", b"");
             self.end();
         }
         self.hand_over(rt);
-        self.is_in_turn = false;
         self.trace.end_turn();
     }
 

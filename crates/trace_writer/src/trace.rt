@@ -2,7 +2,6 @@
 use crate::calls::Calls;
 use crate::handed::Handed;
 use crate::mark::Batch;
-use call_auth::Challenge;
 use call_files::Fault;
 use std::alloc::{AllocError, Global};
 use std::sync::atomic::{AtomicBool, AtomicU64, Ordering};
@@ -19,24 +18,13 @@ pub struct TraceState {
     pub fault: Option<Fault>,
 }
 
-// The notes of a thread, until the writer takes them.
-#[derive(Drop)]
-struct Notes {
-    handed: Mutex<Handed>,
-    // The moment and the challenge of its turn.
-    now: AtomicU64,
-    challenge: Mutex<Option<Challenge>>,
-    // Events of the thread's open call.
-    is_turned_away: AtomicBool,
-    has_retired: AtomicBool,
-}
-
 /// The notes of the threads, and the state of the writer's files. All threads share it.
 pub struct Trace {
     pub(crate) calls: Calls,
     // The number of workers in a turn.
     turns: AtomicU64,
-    lanes: Vec<Notes>,
+    // By thread: its notes, until the writer takes them.
+    lanes: Vec<Mutex<Handed>>,
     // By number: 1 more than the count of numbers returned before it was last returned; 0 if it never was.
     freed: Vec<AtomicU64>,
     legs: AtomicU64,
@@ -80,14 +68,8 @@ impl Trace {
     pub fn new(alloc: Global, threads: usize, numbers: u16) -> Result<Trace, AllocError> {
         let mut lanes = Vec::new(alloc);
         for _ in 0..threads {
-            let notes = Notes {
-                handed: Mutex::new(Handed::new(alloc)?),
-                now: AtomicU64::new(0),
-                challenge: Mutex::new(None),
-                is_turned_away: AtomicBool::new(false),
-                has_retired: AtomicBool::new(false),
-            };
-            if lanes.push(notes).is_err() {
+            let handed = Mutex::new(Handed::new(alloc)?);
+            if lanes.push(handed).is_err() {
                 return Err(AllocError);
             }
         }
@@ -108,31 +90,6 @@ impl Trace {
         })
     }
 
-    /// Sets the moment of the next turn of the worker at this place, in milliseconds since the exchange was opened.
-    pub fn tell_moment(&self, thread: usize, now: u64) {
-        if let Some(notes) = self.lanes.get(thread) {
-            notes.now.store(now, Ordering::SeqCst);
-        }
-    }
-
-    /// Sets the challenge of the next turn of the worker at this place.
-    pub fn tell_challenge<R: Wait>(&self, rt: &R, thread: usize, challenge: &Challenge) {
-        if let Some(notes) = self.lanes.get(thread) {
-            *notes.challenge.lock(rt) = Some(challenge.copied());
-        }
-    }
-
-    /// Returns the moment of a worker's turn, and its challenge if that has changed.
-    pub(crate) fn turn_of<R: Wait>(&self, rt: &R, thread: usize) -> (u64, Option<Challenge>) {
-        match self.lanes.get(thread) {
-            Some(notes) => {
-                let challenge = notes.challenge.lock(rt).take();
-                (notes.now.load(Ordering::SeqCst), challenge)
-            }
-            None => (0, None),
-        }
-    }
-
     /// Sets whether all peers drain.
     pub(crate) fn set_draining(&self, drains: bool) {
         self.drains.store(drains, Ordering::SeqCst);
@@ -141,26 +98,6 @@ impl Trace {
     /// Returns whether all peers drain.
     pub(crate) fn drains(&self) -> bool {
         self.drains.load(Ordering::SeqCst)
-    }
-
-    /// Marks the thread's current datagram as turned away.
-    pub fn turn_away(&self, thread: u16) {
-        if let Some(notes) = self.lanes.get(usize::from(thread)) {
-            notes.is_turned_away.store(true, Ordering::SeqCst);
-        }
-    }
-
-    /// Notes that the thread at this place took out the leg with this local number.
-    pub fn retire(&self, thread: u16, number: u16) {
-        if let Some(notes) = self.lanes.get(usize::from(thread)) {
-            notes.has_retired.store(true, Ordering::SeqCst);
-        }
-        self.free(number);
-    }
-
-    /// Notes that this local number was skipped: it was reserved, and returned at once.
-    pub fn skip(&self, number: u16) {
-        self.free(number);
     }
 
     /// The first leg of the service has this serial; 0 if nobody says so. No call is open yet.
@@ -173,8 +110,9 @@ impl Trace {
         self.serial.load(Ordering::SeqCst)
     }
 
-    // Notes that this local number is free again, behind the others.
-    fn free(&self, number: u16) {
+    /// Notes that this local number is free again, behind the others: its leg was taken out, or it was skipped, which is
+    /// reserved and returned at once.
+    pub fn free(&self, number: u16) {
         if let Some(freed) = self.freed.get(usize::from(number)) {
             let legs = self.legs.fetch_add(1, Ordering::SeqCst);
             freed.store(legs.wrapping_add(1), Ordering::SeqCst);
@@ -247,44 +185,24 @@ impl Trace {
         self.turns.load(Ordering::SeqCst) > 0
     }
 
-    /// Returns whether a thread's datagram was turned away, and resets the mark.
-    pub(crate) fn take_turned_away(&self, thread: usize) -> bool {
-        match self.lanes.get(thread) {
-            // A read costs less than a write, and the mark is rarely set.
-            Some(notes) => {
-                notes.is_turned_away.load(Ordering::SeqCst)
-                    && notes.is_turned_away.swap(false, Ordering::SeqCst)
-            }
-            None => false,
-        }
-    }
-
-    /// Returns whether a thread took a leg out, and resets the mark.
-    pub(crate) fn take_retired(&self, thread: usize) -> bool {
-        match self.lanes.get(thread) {
-            Some(notes) => notes.has_retired.swap(false, Ordering::SeqCst),
-            None => false,
-        }
-    }
-
     /// Hands over the notes of a thread.
     pub(crate) fn hand_over<R: Wait>(&self, rt: &R, thread: usize, noted: &mut Batch) {
-        if let Some(notes) = self.lanes.get(thread) {
-            notes.handed.lock(rt).hand_over(noted);
+        if let Some(handed) = self.lanes.get(thread) {
+            handed.lock(rt).hand_over(noted);
         }
     }
 
     /// Gives a thread back the last batch that it handed over, to continue it, if the writer has another to take.
     pub(crate) fn resume<R: Wait>(&self, rt: &R, thread: usize, noted: &mut Batch) {
-        if let Some(notes) = self.lanes.get(thread) {
-            notes.handed.lock(rt).resume(noted);
+        if let Some(handed) = self.lanes.get(thread) {
+            handed.lock(rt).resume(noted);
         }
     }
 
     /// Takes the batches that a thread has handed over, and gives back those that are written.
     pub(crate) fn trade<R: Wait>(&self, rt: &R, thread: usize, batches: &mut Vec<Batch>) {
-        if let Some(notes) = self.lanes.get(thread) {
-            notes.handed.lock(rt).trade(batches);
+        if let Some(handed) = self.lanes.get(thread) {
+            handed.lock(rt).trade(batches);
         }
     }
 

@@ -6,7 +6,7 @@ ghost use Rattle.peer_plan.specs.declared.endpoint.Endpoint.{Endpoint};
 ghost use Rattle.udp_wires.specs.Counts.{RisesBy};
 ghost use Rattle.udp_wires.specs.Parcels.{Parcel, gave, sent_by};
 
-use peer_plan::{Endpoint, PeerId};
+use peer_plan::Endpoint;
 
 /// A call of a wire that failed.
 #[derive(Clone, Copy, Debug, PartialEq, Eq)]
@@ -50,18 +50,6 @@ pub trait Wire {
         ensures given_to { (to : Endpoint) → given_to self.new to ≡ given_to self.old to }
         ensures failures { RisesBy (failures self.old) (failures self.new) (if is_ok result then 0 else 1) }
         ensures peers { peers self.new ≡ peers self.old };
-
-    /// Notes that a received datagram is given to the exchange next. `_peer` is the peer of its endpoint, or `None` if no peer
-    /// has it. A wire with a trace notes it; any other does nothing.
-    fn note_taken(&mut self, _peer: Option<PeerId>, _from: Endpoint, _octets: &[u8])
-        ensures came { came self.new ≡ came self.old }
-        ensures went { went self.new ≡ went self.old }
-        ensures sent { sent self.new ≡ sent self.old }
-        ensures given { given self.new ≡ given self.old }
-        ensures given_to { (to : Endpoint) → given_to self.new to ≡ given_to self.old to }
-        ensures failures { failures self.new ≡ failures self.old }
-        ensures peers { peers self.new ≡ peers self.old }
-    {}
 
     /// Sends a frame to one of the peers. Returns false if it would have to wait, and doesn't send it; `WireFault` if the
     /// call failed.

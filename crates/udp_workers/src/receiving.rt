@@ -16,6 +16,7 @@ use crate::draining::is_turned_away;
 use crate::inbox::Inbox;
 use crate::intake::loaded;
 use crate::tally::Tally;
+use crate::turn_observer::TurnObserver;
 use crate::turning::Turn;
 use call_book::PeerId;
 use exchange_core::{Event, Gate, Pass, Watch};
@@ -29,10 +30,10 @@ const DATAGRAMS: u64 = 64;
 
 // Handles a received datagram from this endpoint, which is this peer's. A stranger's is refused, and so is a NEW while the
 // service drains. Any other is given to the exchange.
-fn hear<V: Watch, G: Gate, J: LedgerSet, R: Wait>(
+fn hear<V: Watch, O: TurnObserver, G: Gate, J: LedgerSet, R: Wait>(
     turn: &Turn<'_, G, J, R>,
     pass: &mut Pass<J>,
-    tally: &mut Tally<'_, V>,
+    tally: &mut Tally<'_, V, O>,
     peer: Option<PeerId>,
     from: Endpoint,
     octets: &[u8],
@@ -87,12 +88,12 @@ fn hear<V: Watch, G: Gate, J: LedgerSet, R: Wait>(
 
 // Handles the datagram that was left to this turn. Then receives and handles others until none is available, a call of the
 // wire fails, 64 came, or one doesn't fit any more. That one is left to the next turn.
-pub(crate) fn receive_all<W: Wire, V: Watch, G: Gate, J: LedgerSet, R: Wait>(
+pub(crate) fn receive_all<W: Wire, V: Watch, O: TurnObserver, G: Gate, J: LedgerSet, R: Wait>(
     turn: &Turn<'_, G, J, R>,
     wire: &mut W,
     inbox: &mut Inbox,
     pass: &mut Pass<J>,
-    tally: &mut Tally<'_, V>,
+    tally: &mut Tally<'_, V, O>,
 )
     requires room { HasRoom 66 tally.old.report }
     ensures went { W.went wire.new ≡ W.went wire.old }
@@ -136,7 +137,7 @@ pub(crate) fn receive_all<W: Wire, V: Watch, G: Gate, J: LedgerSet, R: Wait>(
         let peer = turn.exchange.plan().peer_at(from);
         // A copy, as in `Tally::tell`.
         let noted = peer;
-        wire.note_taken(noted, from, octets);
+        tally.take(noted, from, octets);
         hear(turn, pass, tally, peer, from, octets);
         inbox.clear();
     }

@@ -10,8 +10,10 @@ ghost use Rattle.udp_workers.specs.Ticked.{IsLater};
 use crate::inbox::Inbox;
 use crate::intake::Intake;
 use crate::report::TurnReport;
+use crate::run_context::RunContext;
 use crate::sources::{Challenges, TurnClock};
 use crate::tally::Tally;
+use crate::turn_observer::{TurnObserver, Unobserved};
 use crate::turning::{Turn, TurnEnd};
 use crate::unwatched::Unwatched;
 use crate::worker::Worker;
@@ -136,15 +138,18 @@ impl Worker {
             &Unwatched,
             Intake::Whole,
             most,
-            moments,
-            challenges,
+            RunContext {
+                moments,
+                challenges,
+                observer: &mut Unobserved,
+            },
         )
     }
 
     /// Makes turns until the watch reports the end of the service, at most `turns` and at most `MOST_TURNS`. Each turn
-    /// first reads the stage from the watch and then reports its events to it. Each turn has its own moment and challenge;
-    /// between them the worker waits for a datagram, at most 20 ms. Returns the sum of their reports, which counts exactly
-    /// the reported events.
+    /// first reads the stage from the watch and then reports its events to it, and to the observer of the run. Each turn has
+    /// its own moment and challenge; between them the worker waits for a datagram, at most 20 ms. Returns the sum of their
+    /// reports, which counts exactly the reported events.
     ///
     /// While the service drains, a NEW of a peer with no destination and OSeqno 0 is kept from the exchange, even a
     /// retransmission for a current leg. It counts as received and refused. All other datagrams are handled as before.
@@ -170,6 +175,7 @@ impl Worker {
         J: LedgerSet,
         M: TurnClock,
         C: Challenges,
+        O: TurnObserver,
         R: Wait,
     >(
         &mut self,
@@ -180,8 +186,7 @@ impl Worker {
         watch: &V,
         intake: Intake,
         turns: u64,
-        moments: &mut M,
-        challenges: &mut C,
+        context: RunContext<'_, M, C, O>,
     ) -> TurnReport
         requires peers { self.old.peers ≡ peers_of exchange.now self.old.place }
         requires wire { AreEndpoints exchange.now self.old.peers (W.peers wire.old) }
@@ -207,9 +212,14 @@ impl Worker {
         ensures place { self.new.place ≡ self.old.place }
         ensures peers { self.new.peers ≡ self.old.peers }
     {
+        let RunContext {
+            moments,
+            challenges,
+            observer,
+        } = context;
         let longest = longest_wait(intake, trunk_ms(exchange.plan()));
         let mut inbox = Inbox::new();
-        let mut tally = Tally::new(watch, self.place);
+        let mut tally = Tally::new(watch, observer, self.place);
         let mut before = None;
         let mut end = TurnEnd::nothing();
         for made in 0..turns.min(MOST_TURNS) {

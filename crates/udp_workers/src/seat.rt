@@ -6,7 +6,9 @@ ghost use Rattle.udp_workers.specs.Served.{AreEndpoints, peers_of};
 
 use crate::intake::Intake;
 use crate::report::TurnReport;
+use crate::run_context::RunContext;
 use crate::sources::{Challenges, TurnClock};
+use crate::turn_observer::TurnObserver;
 use crate::worker::Worker;
 use exchange_core::{Exchange, Gate, Pass, Watch};
 use peer_lock::LedgerSet;
@@ -56,6 +58,7 @@ pub struct SeatState<
     W: Wire + Drop,
     M: TurnClock + Drop,
     C: Challenges + Drop,
+    O: TurnObserver + Drop,
     J: LedgerSet,
     P: PlanBrand,
 > {
@@ -64,6 +67,7 @@ pub struct SeatState<
     pub pass: Pass<J>,
     pub moments: M,
     pub challenges: C,
+    pub observer: O,
     pub start: Start,
     pub report: TurnReport,
     pub post: PhantomData<P>,
@@ -91,9 +95,10 @@ impl<
     W: Wire + Drop,
     M: TurnClock + Drop,
     C: Challenges + Drop,
+    O: TurnObserver + Drop,
     J: LedgerSet,
     P: PlanBrand,
-> SeatState<W, M, C, J, P> {
+> SeatState<W, M, C, O, J, P> {
     ghost use Rattle.udp_workers.specs.Events.{CountsSends, MakesTurns, Tells, nothing};
     ghost use Rattle.udp_workers.specs.Handed.{GivesAll};
     ghost use Rattle.udp_workers.specs.Intake.{RunsTurns};
@@ -132,8 +137,11 @@ impl<
             watch,
             intake,
             turns,
-            &mut self.moments,
-            &mut self.challenges,
+            RunContext {
+                moments: &mut self.moments,
+                challenges: &mut self.challenges,
+                observer: &mut self.observer,
+            },
         );
     }
 }
@@ -144,22 +152,31 @@ pub struct Seat<
     W: Wire + Drop,
     M: TurnClock + Drop,
     C: Challenges + Drop,
+    O: TurnObserver + Drop,
     J: LedgerSet,
     P: PlanBrand,
 > {
-    place: Mutex<SeatState<W, M, C, J, P>>,
+    place: Mutex<SeatState<W, M, C, O, J, P>>,
 }
 
-impl<W: Wire + Drop, M: TurnClock + Drop, C: Challenges + Drop, J: LedgerSet, P: PlanBrand> Seat<
-    W,
-    M,
-    C,
-    J,
-    P,
-> {
+impl<
+    W: Wire + Drop,
+    M: TurnClock + Drop,
+    C: Challenges + Drop,
+    O: TurnObserver + Drop,
+    J: LedgerSet,
+    P: PlanBrand,
+> Seat<W, M, C, O, J, P> {
     /// Returns a worker with all resources of its run, and an empty report. The current counts of its wire and its pass are
     /// its start.
-    pub fn new(worker: Worker, wire: W, pass: Pass<J>, moments: M, challenges: C) -> Self
+    pub fn new(
+        worker: Worker,
+        wire: W,
+        pass: Pass<J>,
+        moments: M,
+        challenges: C,
+        observer: O,
+    ) -> Self
         requires peers { worker.peers ≡ peers_of P.plan worker.place }
         requires ends { AreEndpoints P.plan worker.peers (W.peers wire) }
     {
@@ -171,6 +188,7 @@ impl<W: Wire + Drop, M: TurnClock + Drop, C: Challenges + Drop, J: LedgerSet, P:
                 pass,
                 moments,
                 challenges,
+                observer,
                 start,
                 report: TurnReport::default(),
                 post: PhantomData,
@@ -194,7 +212,7 @@ impl<W: Wire + Drop, M: TurnClock + Drop, C: Challenges + Drop, J: LedgerSet, P:
     }
 
     /// Returns the worker with the resources of its run, and the sum of the reports of its last run.
-    pub fn into_state(self) -> SeatState<W, M, C, J, P> {
+    pub fn into_state(self) -> SeatState<W, M, C, O, J, P> {
         let Seat { place } = self;
         place.into_inner()
     }

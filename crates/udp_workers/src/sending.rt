@@ -8,6 +8,7 @@ ghost use Rattle.udp_workers.specs.Events.{CountsSends, HasRoom};
 ghost use Rattle.exchange_core.specs.declared.watch.Event.TheVariants as events;
 
 use crate::tally::Tally;
+use crate::turn_observer::TurnObserver;
 use crate::turning::Turn;
 use call_book::PeerId;
 use exchange_core::{Event, Gate, Pass, Watch};
@@ -21,9 +22,9 @@ use udp_wires::Wire;
 const FRAMES: u64 = 256;
 
 // Sends a frame to the endpoint of a peer. A frame that the wire doesn't take is lost.
-fn send_frame<W: Wire, V: Watch>(
+fn send_frame<W: Wire, V: Watch, O: TurnObserver>(
     wire: &mut W,
-    tally: &mut Tally<'_, V>,
+    tally: &mut Tally<'_, V, O>,
     peer: PeerId,
     to: Endpoint,
     octets: &[u8],
@@ -61,11 +62,11 @@ fn send_frame<W: Wire, V: Watch>(
 
 // Takes up to 256 frames from the outbox of a peer, one after another into the lent buffer, and sends each to the peer's
 // endpoint. A frame that the wire doesn't take is lost. Returns whether it took 256.
-fn send_all<W: Wire, V: Watch, G: Gate, J: LedgerSet, R: Wait>(
+fn send_all<W: Wire, V: Watch, O: TurnObserver, G: Gate, J: LedgerSet, R: Wait>(
     turn: &Turn<'_, G, J, R>,
     wire: &mut W,
     pass: &mut Pass<J>,
-    tally: &mut Tally<'_, V>,
+    tally: &mut Tally<'_, V, O>,
     peer: PeerId,
     to: Endpoint,
     out: &mut Out,
@@ -103,11 +104,11 @@ fn send_all<W: Wire, V: Watch, G: Gate, J: LedgerSet, R: Wait>(
 
 // Sends as above if the turn empties all outboxes, or if the peer had a step or a tick since the last send. Returns whether
 // the outbox gave as many frames as a turn takes.
-pub(crate) fn send_if_due<W: Wire, V: Watch, G: Gate, J: LedgerSet, R: Wait>(
+pub(crate) fn send_if_due<W: Wire, V: Watch, O: TurnObserver, G: Gate, J: LedgerSet, R: Wait>(
     turn: &Turn<'_, G, J, R>,
     wire: &mut W,
     pass: &mut Pass<J>,
-    tally: &mut Tally<'_, V>,
+    tally: &mut Tally<'_, V, O>,
     peer: PeerId,
     to: Endpoint,
     out: &mut Out,

@@ -1,49 +1,86 @@
-//! The events that were reported to a watch, and their counts.
+//! The events that were reported to a watch and an observer, and their counts.
 ghost use Rattle.std.specs.Prelude.{◌≡◌, All, IfSome, MatchOption};
 ghost use Rattle.exchange_core.specs.Leaving.{departure_of};
 ghost use Rattle.udp_workers.specs.Events.{Tells};
 ghost use Rattle.exchange_core.specs.declared.watch.Event.TheVariants as events;
 
 use crate::report::TurnReport;
+use crate::turn_observer::TurnObserver;
+use call_auth::Challenge;
 use call_book::PeerId;
 use exchange_core::{Answer, Event, Retired, Watch};
-use peer_plan::WorkerId;
+use peer_plan::{Endpoint, WorkerId};
 
-// The watch, and the counts of the events reported to it.
+// The watch, the observer of the turns, and the counts of the events reported to both.
 #[derive(Drop)]
-pub(crate) struct Tally<'w, V: Watch> {
+pub(crate) struct Tally<'w, V: Watch, O: TurnObserver> {
     pub(crate) watch: &'w V,
+    observer: &'w mut O,
     // The worker that makes the turns.
     pub(crate) worker: WorkerId,
     pub(crate) report: TurnReport,
     ghost told: { ∥ Tells (V.told watch.now) report ∥₁ },
 }
 
-impl<'w, V: Watch> Tally<'w, V> {
+impl<'w, V: Watch, O: TurnObserver> Tally<'w, V, O> {
     ghost use Rattle.udp_workers.specs.Events.{HasRoom, OnlyRetires, counted, nothing};
 
     // Returns a tally before the first event.
-    pub(crate) fn new(watch: &'w V, worker: WorkerId) -> Self
+    pub(crate) fn new(watch: &'w V, observer: &'w mut O, worker: WorkerId) -> Self
         ensures watch { result.watch.now ≡ watch.now }
         ensures none { result.report ≡ nothing }
     {
         Tally {
             watch,
+            observer,
             worker,
             report: TurnReport::default(),
         }
     }
 
-    // Reports an event to the watch, and counts it.
+    // Reports to the observer that a turn begins, at a moment in milliseconds since the exchange was opened.
+    pub(crate) fn begin_turn(&mut self, now: u64, challenge: &Challenge)
+        ensures report { self.new.report ≡ self.old.report }
+        ensures watch { self.new.watch ≡ self.old.watch }
+    {
+        self.observer.turn_begins(now, challenge);
+    }
+
+    // Reports to the observer that a received datagram is handled next. `peer` is the peer of its endpoint.
+    pub(crate) fn take(&mut self, peer: Option<PeerId>, from: Endpoint, octets: &[u8])
+        ensures report { self.new.report ≡ self.old.report }
+        ensures watch { self.new.watch ≡ self.old.watch }
+    {
+        self.observer.datagram(peer, from, octets);
+    }
+
+    // Reports to the observer that the peers of the worker are ticked next.
+    pub(crate) fn begin_ticks(&mut self)
+        ensures report { self.new.report ≡ self.old.report }
+        ensures watch { self.new.watch ≡ self.old.watch }
+    {
+        self.observer.ticks_begin();
+    }
+
+    // Reports to the observer that the turn ends.
+    pub(crate) fn end_turn(&mut self)
+        ensures report { self.new.report ≡ self.old.report }
+        ensures watch { self.new.watch ≡ self.old.watch }
+    {
+        self.observer.turn_ends();
+    }
+
+    // Reports an event to the watch and then to the observer, and counts it.
     pub(crate) fn tell(&mut self, event: Event)
         requires room { HasRoom 1 self.old.report }
         ensures told { V.told self.old.watch.now event }
         ensures counted { self.new.report ≡ counted self.old.report event }
         ensures watch { self.new.watch ≡ self.old.watch }
     {
-        // A copy: the borrow checker doesn't cover an enum that holds a peer and is passed by value twice.
-        let told = event;
+        // Copies: the borrow checker doesn't cover an enum that holds a peer and is passed by value twice.
+        let (told, seen) = (event, event);
         self.watch.tell(told);
+        self.observer.event(seen);
         self.report = self.report.counted(event);
     }
 

@@ -4,6 +4,7 @@ ghost use Rattle.std.specs.Prelude.{◌≡◌, ◌≤◌, [], IsFalse, IsOk, len
 use crate::intake::Intake;
 use crate::seat::{PlanBrand, Seat, WatchedExchange};
 use crate::sources::{Challenges, TurnClock};
+use crate::turn_observer::TurnObserver;
 use crate::unwatched::Unwatched;
 use exchange_core::{Exchange, Gate, Watch};
 use peer_lock::LedgerSet;
@@ -27,6 +28,7 @@ pub fn run_all<
     W: Wire + Drop + Send,
     M: TurnClock + Drop + Send,
     C: Challenges + Drop + Send,
+    O: TurnObserver + Drop + Send,
     G: Gate + Sync,
     J: LedgerSet,
     P: PlanBrand + Send + Sync,
@@ -34,7 +36,7 @@ pub fn run_all<
 >(
     rt: &R,
     exchange: &Exchange<G, J>,
-    seats: &mut [Seat<W, M, C, J, P>],
+    seats: &mut [Seat<W, M, C, O, J, P>],
     turns: u32,
 ) -> Result<(), NoThread>
     requires few { length seats.old ≤ 8 }
@@ -76,8 +78,9 @@ impl<'s, V: Watch + Sync, G: Gate + Sync, J: LedgerSet, P: PlanBrand + Send + Sy
         W: Wire + Drop + Send,
         M: TurnClock + Drop + Send,
         C: Challenges + Drop + Send,
+        O: TurnObserver + Drop + Send,
         R: Wait + Sync,
-    >(&'s self, rt: &'s R, scope: &Scope<'s, E>, seats: &'s [Seat<W, M, C, J, P>]) -> bool
+    >(&'s self, rt: &'s R, scope: &Scope<'s, E>, seats: &'s [Seat<W, M, C, O, J, P>]) -> bool
         ensures { IsFalse result → V.lacks_thread self.now.watch.now }
     {
         let mut started = true;
@@ -96,8 +99,9 @@ impl<'s, V: Watch + Sync, G: Gate + Sync, J: LedgerSet, P: PlanBrand + Send + Sy
         W: Wire + Drop + Send,
         M: TurnClock + Drop + Send,
         C: Challenges + Drop + Send,
+        O: TurnObserver + Drop + Send,
         R: Threads + Wait + Sync,
-    >(&self, rt: &R, others: &[Seat<W, M, C, J, P>], last: &Seat<W, M, C, J, P>) -> bool {
+    >(&self, rt: &R, others: &[Seat<W, M, C, O, J, P>], last: &Seat<W, M, C, O, J, P>) -> bool {
         thread::scope(thread::scope_env(), rt, |scope| {
             let started = self.start_until(rt, scope, others);
             last.run(rt, self);

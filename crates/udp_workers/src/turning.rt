@@ -16,6 +16,7 @@ use crate::receiving::receive_all;
 use crate::report::TurnReport;
 use crate::sending::send_if_due;
 use crate::tally::Tally;
+use crate::turn_observer::{TurnObserver, Unobserved};
 use crate::unwatched::Unwatched;
 use crate::waking::wake_others;
 use crate::worker::Worker;
@@ -102,7 +103,8 @@ impl Worker {
         ensures few { length self.new.peers ≤ 32 }
         ensures turns { RisesBy self.old.turns self.new.turns 1 }
     {
-        let mut tally = Tally::new(&Unwatched, self.place);
+        let mut observer = Unobserved;
+        let mut tally = Tally::new(&Unwatched, &mut observer, self.place);
         let turn = Turn {
             rt,
             exchange,
@@ -118,13 +120,13 @@ impl Worker {
 
     // Makes a turn, with the datagram that the turn before left. It ticks all peers and empties their outboxes, or those
     // that are due. Returns the state for the next turn.
-    pub(crate) fn turn_at<W: Wire, V: Watch, G: Gate, J: LedgerSet, R: Wait>(
+    pub(crate) fn turn_at<W: Wire, V: Watch, O: TurnObserver, G: Gate, J: LedgerSet, R: Wait>(
         &mut self,
         turn: &Turn<'_, G, J, R>,
         wire: &mut W,
         inbox: &mut Inbox,
         pass: &mut Pass<J>,
-        tally: &mut Tally<'_, V>,
+        tally: &mut Tally<'_, V, O>,
     ) -> TurnEnd
         requires peers { self.old.peers ≡ peers_of turn.now.exchange.now self.old.place }
         requires wire { AreEndpoints turn.now.exchange.now self.old.peers (W.peers wire.old) }
@@ -164,11 +166,14 @@ impl Worker {
         // No two peers of a plan have one endpoint.
         let _peers = turn.exchange.plan().peer_count();
         self.turns = self.turns.wrapping_add(1);
+        tally.begin_turn(turn.time, turn.challenge);
         receive_all(turn, wire, inbox, pass, tally);
+        tally.begin_ticks();
         let peers = self.peers.as_slice();
         let has_left_out = tick_due(turn, pass, tally, peers);
         let was_full = empty_due(turn, wire, pass, tally, peers, &mut self.out);
         wake_others(turn, pass, tally.watch, peers, self.place);
+        tally.end_turn();
         TurnEnd {
             has_left_out,
             was_full,
@@ -177,10 +182,10 @@ impl Worker {
 }
 
 // Ticks a peer.
-fn tick_peer<V: Watch, G: Gate, J: LedgerSet, R: Wait>(
+fn tick_peer<V: Watch, O: TurnObserver, G: Gate, J: LedgerSet, R: Wait>(
     turn: &Turn<'_, G, J, R>,
     pass: &mut Pass<J>,
-    tally: &mut Tally<'_, V>,
+    tally: &mut Tally<'_, V, O>,
     peer: PeerId,
 )
     requires peer { peer < length turn.now.exchange.now.peers }
@@ -208,10 +213,10 @@ fn is_due<G: Gate, J: LedgerSet, R: Wait>(
 
 // Ticks a peer if it is due. Returns whether it is.
 #[tactic(auto, using(crate::proofs::TickLaws::if_ticked, crate::proofs::TickLaws::if_left_out, crate::proofs::HandingLaws::gives_none))]
-fn tick_if_due<V: Watch, G: Gate, J: LedgerSet, R: Wait>(
+fn tick_if_due<V: Watch, O: TurnObserver, G: Gate, J: LedgerSet, R: Wait>(
     turn: &Turn<'_, G, J, R>,
     pass: &mut Pass<J>,
-    tally: &mut Tally<'_, V>,
+    tally: &mut Tally<'_, V, O>,
     peer: PeerId,
 ) -> bool
     requires peer { peer < length turn.now.exchange.now.peers }
@@ -231,10 +236,10 @@ fn tick_if_due<V: Watch, G: Gate, J: LedgerSet, R: Wait>(
 
 // Ticks each of these peers that is due when its turn in the order comes. So a peer with a leg that the tick of an earlier
 // peer hangs up is due too. Returns whether it left out a peer.
-fn tick_due<V: Watch, G: Gate, J: LedgerSet, R: Wait>(
+fn tick_due<V: Watch, O: TurnObserver, G: Gate, J: LedgerSet, R: Wait>(
     turn: &Turn<'_, G, J, R>,
     pass: &mut Pass<J>,
-    tally: &mut Tally<'_, V>,
+    tally: &mut Tally<'_, V, O>,
     peers: &[u16],
 ) -> bool
     requires peers { All (λ peer. peer < length turn.now.exchange.now.peers) peers.now }
@@ -255,11 +260,11 @@ fn tick_due<V: Watch, G: Gate, J: LedgerSet, R: Wait>(
 
 // Sends the datagrams in the outboxes of these peers, or of those that are due. Returns whether one gave as many as a turn
 // takes.
-fn empty_due<W: Wire, V: Watch, G: Gate, J: LedgerSet, R: Wait>(
+fn empty_due<W: Wire, V: Watch, O: TurnObserver, G: Gate, J: LedgerSet, R: Wait>(
     turn: &Turn<'_, G, J, R>,
     wire: &mut W,
     pass: &mut Pass<J>,
-    tally: &mut Tally<'_, V>,
+    tally: &mut Tally<'_, V, O>,
     peers: &[u16],
     out: &mut Out,
 ) -> bool

@@ -1,18 +1,14 @@
 //! Moments by the clock of the system.
 use std::time::{Clock, Instant};
-use trace_writer::Trace;
 use udp_workers::TurnClock;
 
-/// Returns the milliseconds since an exchange was opened, and reports them to the trace if there is one. If the clock can't
-/// be read, it returns the last ones again.
+/// Returns the milliseconds since an exchange was opened. If the clock can't be read, it returns the last ones again.
 #[derive(Drop)]
 pub struct SinceOpening<'t, R: Clock> {
     pub(crate) rt: &'t R,
     pub(crate) opened: Instant,
     // The last moment that it returned.
     pub(crate) last: u64,
-    pub(crate) trace: Option<&'t Trace>,
-    pub(crate) thread: usize,
 }
 
 impl<'t, R: Clock> TurnClock for SinceOpening<'t, R> {
@@ -22,9 +18,6 @@ impl<'t, R: Clock> TurnClock for SinceOpening<'t, R> {
             if let Ok(now) = u64::try_from(elapsed.as_millis()) {
                 self.last = now;
             }
-        }
-        if let Some(trace) = self.trace {
-            trace.tell_moment(self.thread, self.last);
         }
         self.last
     }

@@ -6,31 +6,22 @@ use call_auth::Challenge;
 use rand::RngExt;
 use rand::rngs::StdRng;
 use rand_core::Rng;
-use std::sync::Wait;
-use trace_writer::Trace;
 use udp_workers::Challenges;
 
-/// Draws challenges from a generator ("Authentication"), and reports them to the trace if there is one. A challenge is ten
-/// decimal digits. If the exchange's challenges have a common prefix, it is that prefix and decimal digits up to 32 octets.
+/// Draws challenges from a generator ("Authentication"). A challenge is ten decimal digits. If the exchange's challenges have
+/// a common prefix, it is that prefix and decimal digits up to 32 octets.
 #[derive(Drop)]
-pub struct Digits<'t, R: Wait> {
-    pub(crate) rt: &'t R,
+pub struct Digits {
     pub(crate) generator: StdRng,
     pub(crate) prefix: Option<Challenge>,
-    pub(crate) trace: Option<&'t Trace>,
-    pub(crate) thread: usize,
 }
 
-impl<'t, R: Wait> Challenges for Digits<'t, R> {
+impl Challenges for Digits {
     fn draw(&mut self) -> Challenge {
-        let challenge = match &self.prefix {
+        match &self.prefix {
             Some(prefix) => challenge_behind(prefix, &mut self.generator),
             None => ten_digits_alone(&mut self.generator),
-        };
-        if let Some(trace) = self.trace {
-            trace.tell_challenge(self.rt, self.thread, &challenge);
         }
-        challenge
     }
 }
 

@@ -1,5 +1,5 @@
-//! The workers of a plan in their seats: each has a UDP socket, the system's clock, and challenges of random digits. They
-//! note the exchange's input in a trace if there is one, and report their counts.
+//! The workers of a plan in their seats: each has a UDP socket, the system's clock, challenges of random digits, and an
+//! observer that notes the exchange's input in a trace if there is one. They report their counts.
 #![tactic(auto)]
 
 mod clock;
@@ -12,7 +12,7 @@ mod service_error;
 mod skipping;
 mod sockets;
 mod spare_pass;
-mod traced_wire;
+mod traced_turns;
 
 pub use clock::SinceOpening;
 pub use digits::Digits;
@@ -24,4 +24,4 @@ pub use service_error::{ServiceError, service_error_name};
 pub use skipping::{first_serial, skip_numbers};
 pub use sockets::{PlainSockets, Sockets, room_of};
 pub use spare_pass::with_spare_pass;
-pub use traced_wire::{TracedWire, lane_of};
+pub use traced_turns::{TracedTurns, lane_of};

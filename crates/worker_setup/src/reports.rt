@@ -6,12 +6,17 @@ use std::alloc::Global;
 use std::io;
 use std::io::Write;
 use udp_wires::Wire;
-use udp_workers::{Challenges, PlanBrand, Seat, SeatState, TurnClock, TurnReport};
+use udp_workers::{Challenges, PlanBrand, Seat, SeatState, TurnClock, TurnObserver, TurnReport};
 
 // Returns a worker's report and its pass.
-fn report_of<W: Wire + Drop, M: TurnClock + Drop, C: Challenges + Drop, J: LedgerSet, P: PlanBrand>(
-    seat: Seat<W, M, C, J, P>,
-) -> (TurnReport, Pass<J>) {
+fn report_of<
+    W: Wire + Drop,
+    M: TurnClock + Drop,
+    C: Challenges + Drop,
+    O: TurnObserver + Drop,
+    J: LedgerSet,
+    P: PlanBrand,
+>(seat: Seat<W, M, C, O, J, P>) -> (TurnReport, Pass<J>) {
     let SeatState { report, pass, .. } = seat.into_state();
     (report, pass)
 }
@@ -23,11 +28,12 @@ pub fn reports_of<
     W: Wire + Drop,
     M: TurnClock + Drop,
     C: Challenges + Drop,
+    O: TurnObserver + Drop,
     J: LedgerSet,
     P: PlanBrand,
 >(
     alloc: Global,
-    mut seats: Vec<Seat<W, M, C, J, P>>,
+    mut seats: Vec<Seat<W, M, C, O, J, P>>,
     passes: &mut Vec<Pass<J>>,
 ) -> Result<Vec<TurnReport>, ServiceError> {
     let count = seats.len();

@@ -8,7 +8,7 @@ use crate::digits::Digits;
 use crate::seat_context::SeatContext;
 use crate::service_error::ServiceError;
 use crate::sockets::{Sockets, wire_of};
-use crate::traced_wire::{TracedWire, lane_of};
+use crate::traced_turns::{TracedTurns, lane_of};
 use exchange_core::Pass;
 use peer_lock::LedgerSet;
 use peer_plan::WorkerId;
@@ -17,28 +17,30 @@ use std::net::Net;
 use std::random::RandomSource;
 use std::sync::Wait;
 use std::time::Clock;
-use udp_workers::{PlanBrand, Seat, Worker};
+use udp_workers::{MioWire, PlanBrand, Seat, Worker};
 
-/// A worker over a UDP socket of the system, by its clock, with challenges of random digits.
+/// A worker over a UDP socket of the system, by its clock, with challenges of random digits. Its turns are noted if there is a
+/// trace.
 pub type ServiceSeat<'t, R, J, P> = Seat<
-    TracedWire<'t, R>,
+    MioWire,
     SinceOpening<'t, R>,
-    Digits<'t, R>,
+    Digits,
+    TracedTurns<'t, R>,
     J,
     P,
 >;
 
-// Opens a worker's resources: its wire, which is its own socket and its lane of the trace, and the source of its
-// challenges.
+// Opens a worker's resources: its wire, which is its own socket, the source of its challenges, and the observer of its
+// turns, which has its lane of the trace.
 fn tools_of<'t, R: Net + RandomSource + Wait, S: Sockets>(
     context: &SeatContext<'t, R>,
     sockets: &S,
     worker: &Worker,
     place: WorkerId,
-) -> Result<(TracedWire<'t, R>, Digits<'t, R>), ServiceError>
+) -> Result<(MioWire, Digits, TracedTurns<'t, R>), ServiceError>
     requires place { place < length context.now.plan.now.workers }
     requires peers { worker.now.peers ≡ peers_of context.now.plan.now worker.now.place }
-    ensures { IfOk result (λ tools. AreEndpoints context.now.plan.now worker.now.peers (wires.peers_of tools.0.wire)) }
+    ensures { IfOk result (λ tools. AreEndpoints context.now.plan.now worker.now.peers (wires.peers_of tools.0)) }
 {
     let SeatContext {
         rt,
@@ -47,29 +49,19 @@ fn tools_of<'t, R: Net + RandomSource + Wait, S: Sockets>(
         trace,
         ..
     } = *context;
-    let thread = place.index();
-    let lane = lane_of(alloc, trace, thread)?;
+    let lane = lane_of(alloc, trace, place.index())?;
     let wire = wire_of(context, sockets, worker, place)?;
     let Ok(generator) = make_rng(rt) else {
         return Err(ServiceError::Entropy);
     };
-    let wire = TracedWire {
-        rt,
-        wire,
-        plan,
-        lane,
-    };
     let digits = Digits {
-        rt,
         generator,
         prefix: match plan.challenge_prefix() {
             Some(prefix) => Some(prefix.copied()),
             None => None,
         },
-        trace,
-        thread,
     };
-    Ok((wire, digits))
+    Ok((wire, digits, TracedTurns { rt, lane }))
 }
 
 // Adds the seat of the worker at a place of the plan behind the others, with its own socket. The worker takes the next pass
@@ -90,16 +82,14 @@ fn push_seat<'t, J: LedgerSet, P: PlanBrand, R: Clock + Net + RandomSource + Wai
     ensures taken { OnOk result (vec_len passes.new + 1 ≡ vec_len passes.old) }
 {
     let worker = Worker::new(context.plan, place);
-    let (wire, digits) = tools_of(context, sockets, &worker, place)?;
+    let (wire, digits, observer) = tools_of(context, sockets, &worker, place)?;
     let moments = SinceOpening {
         rt: context.rt,
         opened: context.opened,
         last: 0,
-        trace: context.trace,
-        thread: place.index(),
     };
     let pass = passes.remove(0);
-    seats.push_reserved(Seat::new(worker, wire, pass, moments, digits));
+    seats.push_reserved(Seat::new(worker, wire, pass, moments, digits, observer));
     Ok(())
 }
 

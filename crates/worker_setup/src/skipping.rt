@@ -43,7 +43,7 @@ fn skip<J: LedgerSet, R: Wait>(
             return;
         };
         if let Some(trace) = trace {
-            trace.skip(name.number);
+            trace.free(name.number);
         }
     }
 }

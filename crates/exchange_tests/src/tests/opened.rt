@@ -9,7 +9,8 @@ use crate::tests::same::holds;
 use crate::tests::storm::storm_and_end;
 use crate::tests::two_peers::Progress;
 use crate::tests::wires::{
-    Burst, Played, Rejection, Taken, call_first, play_burst, play_call, play_waking, turn_on,
+    Burst, Calls, Played, Rejection, Taken, call_first, play_burst, play_call, play_observed,
+    play_waking, turn_on,
 };
 use exchange_core::{Exchange, Gate, NoGate, Pass};
 use media_ledger::Blank;
@@ -46,6 +47,8 @@ pub enum Play<'a> {
     WholeCall(u64, &'a mut Option<Played>),
     /// The only worker of a plan is given a burst of trunk frames.
     Burst(Burst, &'a mut Taken),
+    /// The only worker of a plan takes two datagrams in a turn that is observed.
+    Observed(&'a mut Calls),
     /// Media comes to the second worker of a plan for a peer of the first: the number of times that each was woken.
     Waking(&'a mut (u64, u64)),
     /// Each worker of a plan makes one turn: the number of workers that made theirs.
@@ -107,6 +110,7 @@ fn play_any<
         Play::TwoTicks(progress) => play_pair(rt, exchange, passes, Some(progress)),
         Play::WholeCall(at, played) => *played = Some(play_call(rt, alloc, at, exchange, passes)),
         Play::Burst(burst, taken) => *taken = play_burst(rt, alloc, burst, exchange, passes),
+        Play::Observed(calls) => *calls = play_observed(rt, alloc, exchange, passes),
         Play::Waking(woken) => *woken = play_waking(rt, alloc, exchange, passes),
         Play::OneTurn(turns) => *turns = turn_on::<G, J, P, R>(rt, alloc, exchange, passes),
         Play::CallFor200(called) => *called = Some(call_first(rt, alloc, exchange, passes)),

@@ -16,7 +16,7 @@ use std::sync::Wait;
 use std::sync::atomic::Ordering;
 use std::test::*;
 use std::thread::Threads;
-use udp_workers::{Challenges, PlanBrand, Seat, TurnClock, Worker, run_all};
+use udp_workers::{Challenges, PlanBrand, Seat, TurnClock, Unobserved, Worker, run_all};
 
 /// Moment 0.
 #[derive(Drop)]
@@ -39,7 +39,7 @@ impl Challenges for Zero {
 }
 
 // A seat over a wire in memory.
-type TestSeat<J, P> = Seat<MemoryWire, AtOnce, Zero, J, P>;
+type TestSeat<J, P> = Seat<MemoryWire, AtOnce, Zero, Unobserved, J, P>;
 
 // Returns the seat of a worker of a plan, over a wire in memory.
 fn seat_of<J: LedgerSet, P: PlanBrand>(
@@ -55,7 +55,7 @@ fn seat_of<J: LedgerSet, P: PlanBrand>(
     let worker = Worker::new(plan, worker);
     let wire = wire_of(rt, alloc, plan, &worker, 0);
     let challenge = Challenge::new(b"0").expect(rt, "a challenge");
-    Seat::new(worker, wire, pass, AtOnce, Zero(challenge))
+    Seat::new(worker, wire, pass, AtOnce, Zero(challenge), Unobserved)
 }
 
 // Returns the seats of the workers of a plan, in its order, each with a separate pass.

@@ -17,7 +17,7 @@ use std::alloc::{AllocError, Global};
 use std::process::Abort;
 use std::sync::Wait;
 use std::test::*;
-use udp_workers::{Intake, Unwatched, Worker};
+use udp_workers::{Intake, RunContext, Unobserved, Unwatched, Worker};
 
 // The number of trunk frames that come at once.
 const FRAMES: u64 = 64;
@@ -108,8 +108,11 @@ pub fn play_burst<G: Gate, J: LedgerSet, R: Abort + Wait>(
             &Unwatched,
             Intake::Bounded,
             turns,
-            &mut AtOnce,
-            &mut zero,
+            RunContext {
+                moments: &mut AtOnce,
+                challenges: &mut zero,
+                observer: &mut Unobserved,
+            },
         ),
     };
     Taken {

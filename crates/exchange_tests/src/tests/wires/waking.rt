@@ -18,7 +18,7 @@ use std::process::Abort;
 use std::sync::Wait;
 use std::sync::atomic::{AtomicU64, Ordering};
 use std::test::*;
-use udp_workers::{Event, Intake, ServiceStage, Watch, Worker};
+use udp_workers::{Event, Intake, RunContext, ServiceStage, Unobserved, Watch, Worker};
 
 // A mini frame of voice from the east.
 const MINI_FRAME: Arrival = (20, EAST, b"\x00\x09\x00\x14\xaa\xbb\xcc");
@@ -116,8 +116,11 @@ fn take<G: Gate, J: LedgerSet, R: Abort + Wait>(
         watch,
         Intake::Bounded,
         1,
-        &mut AtOnce,
-        &mut Zero(challenge),
+        RunContext {
+            moments: &mut AtOnce,
+            challenges: &mut Zero(challenge),
+            observer: &mut Unobserved,
+        },
     );
 }
 

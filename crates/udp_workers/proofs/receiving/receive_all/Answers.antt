@@ -87,42 +87,43 @@ loop-preserved g c =
     let arrival : Parcel = record { endpoint = c.in-Some.from; octets = c.in-Some.octets.now } in
     let here : Some arrival ≡ c.fill.new.self.datagram = c.in-Some.ensures in
     let more = subst (IsLoaded turn.intake l.taken arrival.octets) c.in-Some-loaded.is c.loaded.ensures in
+    let same = c.take.ensures.report in
+    let received = ap (λ (report : TurnReport). report.received) same in
+    let refused = ap (λ (report : TurnReport). report.refused) same in
     record {
-      received = omega arith;
-      more = omega arith;
-      refused = omega arith;
-      no_fault = c.hear.ensures.faults ∙ l.invariant.no_fault;
-      sent = c.hear.ensures.sent ∙ l.invariant.sent;
-      lost = c.hear.ensures.lost ∙ l.invariant.lost;
-      watch = c.hear.ensures.watch ∙ l.invariant.watch;
-      went = c.note_taken.ensures.went ∙ c.fill.ensures.went ∙ l.invariant.went;
-      wire_sent = c.note_taken.ensures.sent ∙ c.fill.ensures.sent ∙ l.invariant.wire_sent;
-      given = c.note_taken.ensures.given ∙ c.fill.ensures.given ∙ l.invariant.given;
-      given_to = λ to. c.note_taken.ensures.given_to to ∙ c.fill.ensures.given_to to ∙ l.invariant.given_to to;
+      received = omega (arith, received);
+      more = omega (arith, received);
+      refused = omega (arith, received, refused);
+      no_fault = c.hear.ensures.faults ∙ ap (λ (report : TurnReport). report.faults) same ∙ l.invariant.no_fault;
+      sent = c.hear.ensures.sent ∙ ap (λ (report : TurnReport). report.sent) same ∙ l.invariant.sent;
+      lost = c.hear.ensures.lost ∙ ap (λ (report : TurnReport). report.lost) same ∙ l.invariant.lost;
+      watch = c.hear.ensures.watch ∙ c.take.ensures.watch ∙ l.invariant.watch;
+      went = c.fill.ensures.went ∙ l.invariant.went;
+      wire_sent = c.fill.ensures.sent ∙ l.invariant.wire_sent;
+      given = c.fill.ensures.given ∙ l.invariant.given;
+      given_to = λ to. c.fill.ensures.given_to to ∙ l.invariant.given_to to;
       failures = search rules;
-      peers = c.note_taken.ensures.peers ∙ c.fill.ensures.peers ∙ l.invariant.peers;
-      steps = omega arith;
+      peers = c.fill.ensures.peers ∙ l.invariant.peers;
+      steps = omega (arith, received, refused);
       later = later_on c.args.pass.now l.pass c.hear.new.pass l.invariant.later c.hear.ensures.later;
       handed =
           gives_on (g.V.Watch.given c.args.tally.now.watch.now) c.args.pass.now l.pass c.hear.new.pass l.invariant.handed
-          (subst (λ (watch : Bor g.row.V.Denot). GivesAll (g.V.Watch.given watch.now) l.pass c.hear.new.pass) l.invariant.watch
-          c.hear.ensures.handed);
+          (subst (λ (watch : Bor g.row.V.Denot). GivesAll (g.V.Watch.given watch.now) l.pass c.hear.new.pass)
+          (c.take.ensures.watch ∙ l.invariant.watch) c.hear.ensures.handed);
       none_lost = search rules;
       takes =
           subst (λ left. TakesSoFar turn.intake turn.exchange.now view c.args.inbox.now.datagram left (Some c.in-Some-loaded.load)
           (l.counter + 1) c.args.tally.now.report.received c.hear.new.tally.report.received
-          c.args.pass.now c.hear.new.pass came (g.W.Wire.came c.note_taken.new.self))
+          c.args.pass.now c.hear.new.pass came now)
           (sym (ap (λ (inbox : InboxView). inbox.datagram) c.clear.ensures))
-          (subst (λ end. TakesSoFar turn.intake turn.exchange.now view c.args.inbox.now.datagram None (Some c.in-Some-loaded.load)
-          (l.counter + 1) c.args.tally.now.report.received c.hear.new.tally.report.received
-          c.args.pass.now c.hear.new.pass came end) (sym c.note_taken.ensures.came)
           (takes_one turn.intake turn.exchange.now view c.args.inbox.now.datagram c.args.tally.now.report.received c.args.pass.now
           came l.inbox.datagram l.taken c.in-Some-loaded.load arrival l.counter l.tally.report.received
           c.hear.new.tally.report.received
           l.pass c.hear.new.pass seen now l.invariant.takes (subst (λ left. Fills l.inbox.datagram left seen now) (sym here)
           c.fill.ensures.fills)
           (λ some. here ∙ ap (λ (inbox : InboxView). inbox.datagram) (c.fill.ensures.kept some)) more
-          (record { away = λ is. (c.hear.ensures.away is).0; heard = c.hear.ensures.heard }) c.hear.ensures.received));
+          (record { away = λ is. (c.hear.ensures.away is).0; heard = c.hear.ensures.heard })
+          (c.hear.ensures.received ∙ ap (λ (n : ℕ). n + 1) received));
     }
 
 pub loop-init : goal.loop-init

@@ -1,4 +1,4 @@
-use Rattle.std.proofs.Common.{Bor, ◌≢◌, ℕ, ◌<◌, List, ◌∙◌, arith, subst, sym, ap, length, rules}
+use Rattle.std.proofs.Common.{Bor, ◌≡◌, ◌≢◌, ℕ, ◌<◌, List, ◌∙◌, arith, subst, sym, ap, length, rules}
 use Rattle.std.specs.Prelude.{All, AllPairs}
 use Rattle.step_log.specs.Notes.{Noted}
 use Rattle.peer_accounts.specs.Accounts.{Credit}
@@ -11,11 +11,25 @@ use Rattle.udp_workers.specs.Handed.{GivesAll}
 use Rattle.udp_workers.specs.Intake.{TakesIn}
 use Rattle.udp_workers.specs.Served.{WorkerView, AreEndpoints}
 use Rattle.udp_workers.specs.Ticked.{IsLater, TicksDue}
+use Rattle.udp_workers.specs.declared.report.TurnReport.{TurnReport}
 use Rattle.udp_workers.proofs.EmptyingLaws.{empties_gives, empties_later, empties_same}
 use Rattle.udp_workers.proofs.HandingLaws.{gives_on}
 use Rattle.udp_workers.proofs.ServedLaws.{peers_below, endpoints_apart}
 use Rattle.udp_workers.proofs.TickLaws.{due_later, later_on}
 use Rattle.udp_workers.proofs.worker.Worker.turn_at.Goals as goal
+
+-- the counts of two reports that are the same
+received_of : {one other : TurnReport} → one ≡ other → one.received ≡ other.received
+received_of same = ap (λ (report : TurnReport). report.received) same
+
+refused_of : {one other : TurnReport} → one ≡ other → one.refused ≡ other.refused
+refused_of same = ap (λ (report : TurnReport). report.refused) same
+
+sent_of : {one other : TurnReport} → one ≡ other → one.sent ≡ other.sent
+sent_of same = ap (λ (report : TurnReport). report.sent) same
+
+lost_of : {one other : TurnReport} → one ≡ other → one.lost ≡ other.lost
+lost_of same = ap (λ (report : TurnReport). report.lost) same
 
 pub tick_due-has_left_out-requires-clause-peers : goal.tick_due-has_left_out-requires-clause-peers
 tick_due-has_left_out-requires-clause-peers g c κs within =
@@ -65,7 +79,18 @@ returns-clause-steps g c =
     let steps = ap (λ (credit : Credit). credit.steps) (ap (λ (pass : Noted). pass.credit) c.wake_others.ensures ∙ same) in
     let received = c.empty_due-was_full.ensures.received ∙ c.tick_due-has_left_out.ensures.only.received in
     let refused = c.empty_due-was_full.ensures.refused ∙ c.tick_due-has_left_out.ensures.only.refused in
-    omega (arith, steps, received, refused)
+    omega (
+      arith,
+      steps,
+      received,
+      refused,
+      received_of c.begin_turn.ensures.report,
+      received_of c.begin_ticks.ensures.report,
+      received_of c.end_turn.ensures.report,
+      refused_of c.begin_turn.ensures.report,
+      refused_of c.begin_ticks.ensures.report,
+      refused_of c.end_turn.ensures.report,
+    )
 
 pub returns-clause-counts : goal.returns-clause-counts
 returns-clause-counts g c =
@@ -74,9 +99,26 @@ returns-clause-counts g c =
     let only = c.tick_due-has_left_out.ensures.only in
     let went = ap (λ (l : List Parcel). length l) arrived.went in
     let sent = ap (λ (l : List Parcel). length l) arrived.wire_sent in
+    let begun = sent_of c.begin_turn.ensures.report in
+    let ticks = sent_of c.begin_ticks.ensures.report in
+    let ended = sent_of c.end_turn.ensures.report in
     record {
-      sent = omega (arith, counts.sent, only.sent, arrived.sent, sent);
-      given = omega (arith, counts.given, only.sent, only.lost, arrived.sent, arrived.lost, went);
+      sent = omega (arith, counts.sent, only.sent, arrived.sent, sent, begun, ticks, ended);
+      given = omega (
+        arith,
+        counts.given,
+        only.sent,
+        only.lost,
+        arrived.sent,
+        arrived.lost,
+        went,
+        begun,
+        ticks,
+        ended,
+        lost_of c.begin_turn.ensures.report,
+        lost_of c.begin_ticks.ensures.report,
+        lost_of c.end_turn.ensures.report,
+      );
     }
 
 pub returns-clause-turn : goal.returns-clause-turn
@@ -89,7 +131,8 @@ returns-clause-turn g c =
     let went = g.W.Wire.went c.args.wire.now in
     let went_now = g.W.Wire.went c.empty_due-was_full.new.wire in
     let own = c.as_slice-peers.ensures.value ∙ ap (λ (worker : WorkerView). worker.peers) c.self.view_is in
-    let counted = c.empty_due-was_full.ensures.received ∙ c.tick_due-has_left_out.ensures.only.received in
+    let counted = received_of c.end_turn.ensures.report ∙ c.empty_due-was_full.ensures.received
+    ∙ c.tick_due-has_left_out.ensures.only.received ∙ received_of c.begin_ticks.ensures.report in
     let sent =
     subst (λ first. EmptiesDue plan turn.all c.as_slice-peers.result.now ticked c.wake_others.new.pass first went_now)
     c.receive_all.ensures.went
@@ -100,13 +143,16 @@ returns-clause-turn g c =
       takes =
           subst (λ end. TakesIn turn.intake plan (record { stage = turn.stage; now = turn.time; challenge = turn.challenge.now })
           c.args.inbox.now.datagram c.receive_all.new.inbox.datagram
-          c.args.tally.now.report.received c.empty_due-was_full.new.tally.report.received c.args.pass.now arrived came end)
+          c.args.tally.now.report.received c.end_turn.new.self.report.received c.args.pass.now arrived came end)
           (sym c.empty_due-was_full.ensures.came)
           (subst (λ (n : ℕ). TakesIn turn.intake plan
           (record { stage = turn.stage; now = turn.time; challenge = turn.challenge.now }) c.args.inbox.now.datagram
           c.receive_all.new.inbox.datagram
           c.args.tally.now.report.received n c.args.pass.now arrived came (g.W.Wire.came c.receive_all.new.wire)) (sym counted)
-          c.receive_all.ensures.takes);
+          (subst (λ (n : ℕ). TakesIn turn.intake plan
+          (record { stage = turn.stage; now = turn.time; challenge = turn.challenge.now }) c.args.inbox.now.datagram
+          c.receive_all.new.inbox.datagram n c.receive_all.new.tally.report.received c.args.pass.now arrived came
+          (g.W.Wire.came c.receive_all.new.wire)) (received_of c.begin_turn.ensures.report) c.receive_all.ensures.takes));
       ticked = ticked;
       ticks = subst (λ peers. TicksDue plan turn.time turn.all peers arrived ticked) own c.tick_due-has_left_out.ensures.ticked;
       empties = subst (λ peers. EmptiesDue plan turn.all peers ticked c.wake_others.new.pass went went_now) own sent;
@@ -118,12 +164,15 @@ returns-clause-handed g c =
     let arrived = c.receive_all.new.pass in
     let ticked = c.tick_due-has_left_out.new.pass in
     let sent = c.empty_due-was_full.new.pass in
-    let ticks = subst (λ (w : Bor g.row.V.Denot). GivesAll (g.V.Watch.given w.now) arrived ticked) c.receive_all.ensures.watch
-    c.tick_due-has_left_out.ensures.handed in
+    let begun = c.begin_turn.ensures.watch in
+    let arrives = subst (λ (w : Bor g.row.V.Denot). GivesAll (g.V.Watch.given w.now) c.args.pass.now arrived) begun
+    c.receive_all.ensures.handed in
+    let ticks = subst (λ (w : Bor g.row.V.Denot). GivesAll (g.V.Watch.given w.now) arrived ticked)
+    (c.begin_ticks.ensures.watch ∙ c.receive_all.ensures.watch ∙ begun) c.tick_due-has_left_out.ensures.handed in
     let empties = empties_gives given c.args.turn.now.exchange.now c.args.turn.now.all c.as_slice-peers.result.now ticked sent _ _
     c.empty_due-was_full.ensures.empties in
     subst (GivesAll given c.args.pass.now) (sym c.wake_others.ensures)
-    (gives_on given c.args.pass.now arrived sent c.receive_all.ensures.handed (gives_on given arrived ticked sent ticks empties))
+    (gives_on given c.args.pass.now arrived sent arrives (gives_on given arrived ticked sent ticks empties))
 
 pub returns-clause-turns : goal.returns-clause-turns
 returns-clause-turns c = search rules

@@ -16,8 +16,8 @@ start_until-started-requires-send-J-Octets g c κs within = search sendable part
 pub start_until-started-requires-send-J-Steps : goal.start_until-started-requires-send-J-Steps
 start_until-started-requires-send-J-Steps g c κs within = search sendable parts 8
 
-pub start_until-started-requires-send-W : goal.start_until-started-requires-send-W
-start_until-started-requires-send-W g c κs within = search (traced_send, sendable) parts 8
+pub start_until-started-requires-send-O : goal.start_until-started-requires-send-O
+start_until-started-requires-send-O g c κs within = search (traced_send, sendable) parts 8
 
 pub run-requires-send-J : goal.run-requires-send-J
 run-requires-send-J g c κs within = search sendable parts 8

@@ -12,7 +12,10 @@ start_until-started-requires g c k = (
       search sendable parts 8,
       (
         search sendable parts 8,
-        (search sendable parts 8, (search sendable parts 8, (search sendable parts 8, search sendable parts 8))),
+        (
+          search sendable parts 8,
+          (search sendable parts 8, (search sendable parts 8, (search sendable parts 8, search sendable parts 8))),
+        ),
       ),
     ),
   ),
