@@ -28,7 +28,7 @@ pub struct ApiHandler<'x, J: LedgerSet> {
     pub exchange: &'x Exchange<NoGate, J>,
     pub pass: Pass<J>,
     pub watch: &'x ServiceWatch,
-    /// The lane of the trace that notes the desk's orders, if a trace is written.
+    /// The lane of the trace that notes the orders of clients, if a trace is written.
     pub lane: Option<TraceLane<'x>>,
 }
 
@@ -38,8 +38,7 @@ impl<'x, J: LedgerSet> ApiHandler<'x, J> {
     pub fn hang_up_all<R: Wait>(&mut self, rt: &R, now: u64) -> u32 {
         let mut legs: u32 = 0;
         for place in 0..self.exchange.plan().peer_count() {
-            let peer = PeerId::new(place);
-            legs = legs.saturating_add(self.hang_up_peer(rt, peer, now));
+            legs = legs.saturating_add(self.hang_up_peer(rt, PeerId::new(place), now));
         }
         legs
     }
@@ -72,15 +71,13 @@ impl<'x, J: LedgerSet> ApiHandler<'x, J> {
             Ok(Operation::Call(number)) => self.call(rt, alloc, number, now),
             Ok(Operation::Accounts) => self.accounts(rt, alloc),
             Ok(Operation::Place) => self.place(rt, alloc, request.body, now),
-            Ok(Operation::HangUp(number)) => match find_leg(
-                rt,
-                self.exchange,
-                &mut self.pass,
-                number,
-            ) {
-                Some((_, name)) => self.drop_call(rt, alloc, name, now),
-                None => Response::error(alloc, StatusCode::NotFound, "NoLeg"),
-            },
+            Ok(Operation::HangUp(number)) => {
+                let found = find_leg(rt, self.exchange, &mut self.pass, number);
+                match found {
+                    Some((_, name)) => self.drop_call(rt, alloc, name, now),
+                    None => Response::error(alloc, StatusCode::NotFound, "NoLeg"),
+                }
+            }
             Ok(Operation::Stop) => {
                 self.watch.lifecycle().stop();
                 answered(alloc, StatusCode::Accepted, "{}")

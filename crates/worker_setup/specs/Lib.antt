@@ -1,1 +1,2 @@
 pub mod ServiceErrors
+pub mod Drawing

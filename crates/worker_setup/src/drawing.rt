@@ -1,5 +1,6 @@
 //! Random values that an exchange draws from the system's entropy when it is opened.
-ghost use Rattle.std.specs.Prelude.{◌≡◌, ◌≤◌, ◌<◌, ℕ, IfOk, length, slice_index};
+ghost use Rattle.std.specs.Prelude.{◌≡◌, ◌≤◌, ◌<◌, ℕ, IfOk, IsFalse, length, slice_index};
+ghost use Rattle.worker_setup.specs.Drawing.{AreLetters, DrewBoth, DrewKey, NoneNeedsTokens};
 
 use crate::service_error::ServiceError;
 use call_auth::Challenge;
@@ -15,6 +16,7 @@ use std::random::RandomSource;
 ///
 /// Returns `Entropy` if the system gives no random octets.
 pub fn with_drawn<R: RandomSource>(rt: &R, plan: Plan) -> Result<Plan, ServiceError>
+    ensures drawn { IfOk result (DrewBoth plan) }
     ensures workers { IfOk result (λ drawn. drawn.workers ≡ plan.workers) }
     ensures passes { IfOk result (λ drawn. drawn.passes ≡ plan.passes) }
     ensures peers { IfOk result (λ drawn. length drawn.peers ≡ length plan.peers) }
@@ -22,7 +24,7 @@ pub fn with_drawn<R: RandomSource>(rt: &R, plan: Plan) -> Result<Plan, ServiceEr
     let Ok(mut generator) = make_rng(rt) else {
         return Err(ServiceError::Entropy);
     };
-    let challenge_prefix = Challenge::new(&twelve_letters::<StdRng>(&mut generator));
+    let challenge_prefix = Some(prefix::<StdRng>(&mut generator));
     let token_key = key::<StdRng>(&mut generator);
     let drawn = Drawn {
         challenge_prefix,
@@ -36,6 +38,7 @@ pub fn with_drawn<R: RandomSource>(rt: &R, plan: Plan) -> Result<Plan, ServiceEr
 ///
 /// Returns `Entropy` if the system gives no random octets.
 pub fn with_drawn_key<R: RandomSource>(rt: &R, plan: Plan) -> Result<Plan, ServiceError>
+    ensures drawn { IfOk result (DrewKey plan) }
     ensures workers { IfOk result (λ drawn. drawn.workers ≡ plan.workers) }
     ensures passes { IfOk result (λ drawn. drawn.passes ≡ plan.passes) }
     ensures peers { IfOk result (λ drawn. length drawn.peers ≡ length plan.peers) }
@@ -55,7 +58,9 @@ pub fn with_drawn_key<R: RandomSource>(rt: &R, plan: Plan) -> Result<Plan, Servi
 }
 
 // Returns whether a peer needs call tokens.
-fn asks_for_tokens(plan: &Plan) -> bool {
+fn asks_for_tokens(plan: &Plan) -> bool
+    ensures { IsFalse result → NoneNeedsTokens plan.now }
+{
     for place in 0..plan.peer_count() {
         if plan.call_tokens(PeerId::new(place)).is_some() {
             return true;
@@ -69,6 +74,16 @@ fn key<R: Rng>(generator: &mut R) -> [u8; 32] {
     let mut key = [0; 32];
     generator.fill_bytes(&mut key);
     key
+}
+
+// Draws a prefix for challenges.
+fn prefix<R: Rng>(generator: &mut R) -> Challenge
+    ensures { AreLetters result }
+{
+    match Challenge::new(&twelve_letters(generator)) {
+        Some(prefix) => prefix,
+        None => unreachable!(),
+    }
 }
 
 // Draws twelve lower-case letters.

@@ -1,46 +1,28 @@
 //! The reports of workers.
+use crate::seats::ServiceSeat;
 use crate::service_error::ServiceError;
 use exchange_core::Pass;
 use peer_lock::LedgerSet;
 use std::alloc::Global;
 use std::io;
 use std::io::Write;
-use udp_wires::Wire;
-use udp_workers::{Challenges, PlanBrand, Seat, SeatState, TurnClock, TurnObserver, TurnReport};
-
-// Returns a worker's report and its pass.
-fn report_of<
-    W: Wire + Drop,
-    M: TurnClock + Drop,
-    C: Challenges + Drop,
-    O: TurnObserver + Drop,
-    J: LedgerSet,
-    P: PlanBrand,
->(seat: Seat<W, M, C, O, J, P>) -> (TurnReport, Pass<J>) {
-    let SeatState { report, pass, .. } = seat.into_state();
-    (report, pass)
-}
+use std::sync::Wait;
+use std::time::Clock;
+use udp_workers::{PlanBrand, SeatState, TurnReport};
 
 /// Returns the reports of the seats, in order. Their passes are added back to `passes`.
 ///
 /// Returns `Memory` if a request for memory was refused. Then the seats are dropped, with their passes.
-pub fn reports_of<
-    W: Wire + Drop,
-    M: TurnClock + Drop,
-    C: Challenges + Drop,
-    O: TurnObserver + Drop,
-    J: LedgerSet,
-    P: PlanBrand,
->(
+pub fn reports_of<J: LedgerSet, P: PlanBrand, R: Clock + Wait>(
     alloc: Global,
-    mut seats: Vec<Seat<W, M, C, O, J, P>>,
+    mut seats: Vec<ServiceSeat<'_, R, J, P>>,
     passes: &mut Vec<Pass<J>>,
 ) -> Result<Vec<TurnReport>, ServiceError> {
     let count = seats.len();
     let mut reports = Vec::with_capacity(alloc, count)?;
     passes.reserve(count)?;
     for _ in 0..count {
-        let (report, pass) = report_of(seats.remove(0));
+        let SeatState { report, pass, .. } = seats.remove(0).into_state();
         reports.push_reserved(report);
         passes.push_reserved(pass);
     }

@@ -7,12 +7,12 @@ use crate::tests::desk::EAST;
 use crate::tests::opened::{Play, play_with};
 use crate::tests::same::same;
 use crate::tests::wires::both_at_once::{AtOnce, Zero};
-use crate::tests::wires::memory_wire::{MemoryWire, wire_of};
+use crate::tests::wires::memory_wire::{MemoryWire, first_worker};
 use call_auth::Challenge;
 use exchange_core::{Exchange, Gate, NoGate, Pass};
 use layer_tests::plans::{NO_TRUNKS, SILENT_THIRD};
 use peer_lock::{LedgerSet, Losses};
-use peer_plan::{PeerId, WorkerId};
+use peer_plan::PeerId;
 use std::alloc::{AllocError, Global};
 use std::process::Abort;
 use std::sync::Wait;
@@ -82,10 +82,8 @@ pub fn play_burst<G: Gate, J: LedgerSet, R: Abort + Wait>(
 ) -> Taken {
     let pass = passes.first_mut().expect(rt, "a pass");
     let challenge = Challenge::new(b"0").expect(rt, "a challenge");
-    let _workers = exchange.plan().workers();
     let _peers = exchange.plan().peer_count();
-    let mut worker = Worker::new(exchange.plan(), WorkerId::new(0));
-    let mut wire = wire_of(rt, alloc, exchange.plan(), &worker, 0);
+    let (mut worker, mut wire) = first_worker(rt, alloc, exchange, 0);
     play_up(rt, exchange, pass, &mut worker, &mut wire, &challenge);
     wire.put_often(EAST, trunk_frame(alloc).expect(rt, "a frame"), FRAMES);
     let mut zero = Zero(challenge);

@@ -2,7 +2,9 @@
 ghost use Rattle.std.specs.Prelude.{◌≡◌, ◌≤◌, length};
 ghost use Rattle.udp_workers.specs.Served.{AreEndpoints, peers_of};
 
-use peer_plan::{Endpoint, Plan};
+use exchange_core::{Exchange, Gate};
+use peer_lock::LedgerSet;
+use peer_plan::{Endpoint, Plan, WorkerId};
 use std::alloc::{AllocError, Global};
 use std::process::Abort;
 use udp_wires::{PeerCounts, Traffic, Wire, WireFault};
@@ -215,4 +217,22 @@ pub fn wire_of(
 {
     let endpoints = worker.endpoints(alloc, plan).expect(rt, "the endpoints");
     MemoryWire::new(alloc, endpoints, fails_at).expect(rt, "a wire")
+}
+
+/// Returns the first worker of an exchange, and its wire in memory, which fails at its call of this place; at 0 never.
+pub fn first_worker<G: Gate, J: LedgerSet>(
+    rt: &impl Abort,
+    alloc: Global,
+    exchange: &Exchange<G, J>,
+    fails_at: u64,
+) -> (Worker, MemoryWire)
+    ensures place { result.0.place ≡ 0 }
+    ensures peers { result.0.peers ≡ peers_of exchange.now result.0.place }
+    ensures wire { AreEndpoints exchange.now result.0.peers result.1.peers.endpoints.items }
+{
+    // A plan has a worker.
+    let _workers = exchange.plan().workers();
+    let worker = Worker::new(exchange.plan(), WorkerId::new(0));
+    let wire = wire_of(rt, alloc, exchange.plan(), &worker, fails_at);
+    (worker, wire)
 }

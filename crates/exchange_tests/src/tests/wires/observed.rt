@@ -5,17 +5,17 @@ use crate::tests::desk::{EAST, EAST_PLACE, WEST, WEST_PLACE};
 use crate::tests::opened::{Play, play_with};
 use crate::tests::same::{holds, same};
 use crate::tests::wires::both_at_once::Zero;
-use crate::tests::wires::memory_wire::wire_of;
+use crate::tests::wires::memory_wire::first_worker;
 use call_auth::Challenge;
 use exchange_core::{Event, Exchange, Gate, NoGate, Pass};
 use layer_tests::plans::ONE_WORKER;
 use peer_lock::LedgerSet;
-use peer_plan::{Endpoint, PeerId, WorkerId};
+use peer_plan::{Endpoint, PeerId};
 use std::alloc::Global;
 use std::process::Abort;
 use std::sync::Wait;
 use std::test::*;
-use udp_workers::{Intake, RunContext, TurnClock, TurnObserver, Unwatched, Worker};
+use udp_workers::{Intake, RunContext, TurnClock, TurnObserver, Unwatched};
 
 // The moment of the turn.
 const MOMENT: u64 = 10;
@@ -117,9 +117,7 @@ pub fn play_observed<G: Gate, J: LedgerSet, R: Abort + Wait>(
 ) -> Calls {
     let pass = passes.first_mut().expect(rt, "a pass");
     let challenge = Challenge::new(b"0").expect(rt, "a challenge");
-    let _workers = exchange.plan().workers();
-    let mut worker = Worker::new(exchange.plan(), WorkerId::new(0));
-    let mut wire = wire_of(rt, alloc, exchange.plan(), &worker, 0);
+    let (mut worker, mut wire) = first_worker(rt, alloc, exchange, 0);
     let _put = wire.put(WEST, WHOLE_CALL[0].2);
     let _report = worker.turn(rt, &mut wire, exchange, pass, 0, &challenge);
     let _put = wire.put(WEST, WHOLE_CALL[1].2);

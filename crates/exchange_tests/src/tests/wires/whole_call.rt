@@ -6,12 +6,11 @@ use crate::tests::arrivals::{TO_EAST, TO_WEST, WHOLE_CALL};
 use crate::tests::desk::{EAST, WEST};
 use crate::tests::opened::{Play, play_with};
 use crate::tests::same::{holds, same};
-use crate::tests::wires::memory_wire::{MemoryWire, wire_of};
+use crate::tests::wires::memory_wire::{MemoryWire, first_worker};
 use call_auth::Challenge;
 use exchange_core::{Exchange, Gate, NoGate, Pass};
 use layer_tests::plans::ONE_WORKER;
 use peer_lock::LedgerSet;
-use peer_plan::WorkerId;
 use std::alloc::Global;
 use std::net::Net;
 use std::process::Abort;
@@ -90,9 +89,7 @@ pub fn play_call<G: Gate, J: LedgerSet, R: Abort + Wait>(
 ) -> Played {
     let pass = passes.first_mut().expect(rt, "a pass");
     let challenge = Challenge::new(b"0").expect(rt, "a challenge");
-    let _workers = exchange.plan().workers();
-    let mut worker = Worker::new(exchange.plan(), WorkerId::new(0));
-    let mut wire = wire_of(rt, alloc, exchange.plan(), &worker, fails_at);
+    let (mut worker, mut wire) = first_worker(rt, alloc, exchange, fails_at);
     let (report, counted) = play_arrivals(rt, exchange, pass, &mut worker, &mut wire, &challenge);
     Played {
         report,
