@@ -115,9 +115,9 @@ pub fn play_observed<G: Gate, J: LedgerSet, R: Abort + Wait>(
     exchange: &Exchange<G, J>,
     passes: &mut [Pass<J>],
 ) -> Calls {
+    let (mut worker, mut wire) = first_worker(rt, alloc, exchange, 0);
     let pass = passes.first_mut().expect(rt, "a pass");
     let challenge = Challenge::new(b"0").expect(rt, "a challenge");
-    let (mut worker, mut wire) = first_worker(rt, alloc, exchange, 0);
     let _put = wire.put(WEST, WHOLE_CALL[0].2);
     let _report = worker.turn(rt, &mut wire, exchange, pass, 0, &challenge);
     let _put = wire.put(WEST, WHOLE_CALL[1].2);
