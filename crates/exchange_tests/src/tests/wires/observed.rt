@@ -135,7 +135,7 @@ pub fn play_observed<G: Gate, J: LedgerSet, R: Abort + Wait>(
         exchange,
         pass,
         &Unwatched,
-        Intake::Bounded,
+        Intake::Whole,
         1,
         context,
     );
