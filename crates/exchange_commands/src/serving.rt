@@ -1,8 +1,9 @@
 //! Runs the workers of a plan between real peers, for a number of turns.
-ghost use Rattle.std.specs.Prelude.{◌≡◌, ◌+◌, ◌≤◌, length, vec_len};
+ghost use Rattle.std.specs.Prelude.{◌≡◌, ◌+◌, ◌≤◌, IfOk, IsOk, OnOk, if◌then◌else◌, is_ok, length, vec_len};
+ghost use Rattle.peer_plan.specs.Reading.{plan_of};
+ghost use Rattle.worker_setup.specs.Reports.{HasServed};
 
 use exchange_core::{Exchange, NoGate, Pass};
-use exchange_report::{closed_accounts, settle};
 use media_ledger::Blank;
 use peer_lock::{LedgerSet, Service};
 use peer_plan::Plan;
@@ -17,8 +18,8 @@ use std::thread::Threads;
 use std::time::{Clock, Instant};
 use udp_workers::{PlanBrand, TurnReport, run_all};
 use worker_setup::{
-    PlainSockets, SeatContext, ServiceError, reports_of, seats_of, service_error_name,
-    tell_reports, with_drawn_key,
+    PlainSockets, SeatContext, ServiceError, reports_of, seats_of, service_error_name, tell_served,
+    with_drawn_key,
 };
 
 // Makes the turns of all workers. Their passes are added back to `passes`.
@@ -37,6 +38,7 @@ fn turns_of<
 ) -> Result<Vec<TurnReport>, ServiceError>
     requires plan { exchange.now ≡ P.plan }
     requires enough { length exchange.now.workers ≤ vec_len passes.old }
+    ensures { IfOk result (λ reports. vec_len reports ≡ length exchange.now.workers) }
 {
     let context = SeatContext {
         rt,
@@ -79,6 +81,7 @@ fn work<
     requires plan { plan ≡ P.plan }
     requires octets { (octets.name ≡ O.name) × (octets.parts ≡ O.parts) × (octets.parts ≡ length plan.peers + plan.passes) }
     requires steps { (steps.name ≡ S.name) × (steps.parts ≡ S.parts) × (steps.parts ≡ length plan.peers + plan.passes) }
+    ensures { OnOk result (HasServed (length plan.workers) (W.contents writer.old) (W.contents writer.new)) }
 {
     let _passes = plan.passes();
     let exchange = Exchange::<NoGate, Service<O, S>>::open(alloc, plan, NoGate, octets, steps);
@@ -86,14 +89,7 @@ fn work<
         return Err(ServiceError::Memory);
     };
     let reports = turns_of::<_, P, R>(rt, alloc, &exchange, &mut passes, turns, opened);
-    match tell_reports(reports, writer) {
-        Ok(()) => settle(exchange, passes, writer),
-        // Closed and not dropped, because a drop would have to be proved here field by field.
-        Err(error) => {
-            let _accounts = closed_accounts(exchange, passes);
-            Err(error)
-        }
-    }
+    tell_served(reports, exchange, passes, writer)
 }
 
 // Makes the turns of a valid plan.
@@ -103,7 +99,9 @@ fn serve_plan<R: Clock + Net + RandomSource + Threads + Wait + Sync, W: Write>(
     plan: Plan,
     turns: u32,
     writer: &mut W,
-) -> Result<(), ServiceError> {
+) -> Result<(), ServiceError>
+    ensures { OnOk result (HasServed (length plan.workers) (W.contents writer.old) (W.contents writer.new)) }
+{
     let Ok(opened) = Instant::now(rt) else {
         return Err(ServiceError::Clock);
     };
@@ -117,7 +115,10 @@ fn serve_plan<R: Clock + Net + RandomSource + Threads + Wait + Sync, W: Write>(
 }
 
 // Returns the status, and prints a refusal.
-fn status_of<W: Write>(served: Result<(), ServiceError>, writer: &mut W) -> u8 {
+fn status_of<W: Write>(served: Result<(), ServiceError>, writer: &mut W) -> u8
+    ensures status { result ≡ (if is_ok served then 0 else 1) }
+    ensures same { IsOk served → writer.new ≡ writer.old }
+{
     let Err(error) = served else {
         return 0;
     };
@@ -140,7 +141,12 @@ pub fn serve<R: Clock + Net + RandomSource + Threads + Wait + Sync, W: Write>(
     plan: &[u8],
     turns: u32,
     writer: &mut W,
-) -> u8 {
+) -> u8
+    ensures status { result ≤ 1 }
+    ensures valid { result ≡ 0 → IsOk (plan_of plan.now) }
+    ensures lines { result ≡ 0 → IfOk (plan_of plan.now)
+        (λ plan. HasServed (length plan.workers) (W.contents writer.old) (W.contents writer.new)) }
+{
     match Plan::read(alloc, plan) {
         Ok(plan) => status_of(serve_plan(rt, alloc, plan, turns, writer), writer),
         Err(fault) => {

@@ -1,5 +1,6 @@
 -- The closed accounts of an exchange, and their lines.
-use Rattle.std.specs.Prelude.{ℕ, ◌≡◌, ◌+◌, ◌==◌, List, [], ◌++◌, codes, decimal, length, if◌then◌else◌}
+use Rattle.std.specs.Prelude.{ℕ, ◌≡◌, ◌+◌, ◌≤◌, ◌==◌, List, [], ◌++◌, Option, codes, decimal, length, if◌then◌else◌}
+use Rattle.std.specs.Io.KnownBytes.{Appends}
 use Rattle.exchange_core.specs.Sums.{accounts_of, left_with, steps_under}
 use Rattle.exchange_report.specs.declared.accounts.MediaAccounts.{MediaAccounts}
 use Rattle.step_log.specs.Notes.{Noted}
@@ -23,3 +24,11 @@ accounts_text accounts =
     (codes "octets " ++ (decimal accounts.accepted ++ (codes " " ++ (decimal accounts.packed ++ (codes " "
     ++ (decimal accounts.queued ++ (codes " " ++ (decimal accounts.dropped ++ codes "\n"))))))))
     ++ quelched_line accounts.quelched
+
+-- a writer was given the lines of accounts that add up
+pub record WereAccountsWritten (count : ℕ) (passes : List Noted) (before after : Option (List ℕ)) : Type 0 where
+  pub accounts : MediaAccounts
+  pub balances : accounts.accepted ≡ accounts.packed + accounts.queued + accounts.dropped
+  pub part : accounts.quelched ≤ accounts.dropped
+  pub sums : AreSums count passes accounts
+  pub lines : Appends before after (accounts_text accounts)

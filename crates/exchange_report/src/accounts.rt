@@ -1,7 +1,7 @@
 //! Closes and writes the accounts of an exchange.
 ghost use Rattle.std.specs.Prelude.{◌≡◌, ◌+◌, ◌≤◌, IfOk, OnOk, length};
 ghost use Rattle.std.specs.Io.KnownBytes.{Appends};
-ghost use Rattle.exchange_report.specs.Accounts.{AreSums, accounts_text};
+ghost use Rattle.exchange_report.specs.Accounts.{AreSums, WereAccountsWritten, accounts_text};
 
 use exchange_core::{Exchange, NoGate, Pass};
 use peer_lock::LedgerSet;
@@ -69,7 +69,10 @@ pub fn settle<J: LedgerSet, W: Write, S: From<io::Error> + From<AllocError>>(
     exchange: Exchange<NoGate, J>,
     passes: Vec<Pass<J>>,
     writer: &mut W,
-) -> Result<(), S> {
+) -> Result<(), S>
+    ensures { OnOk result
+        (WereAccountsWritten (length exchange.peers) passes.items (W.contents writer.old) (W.contents writer.new)) }
+{
     match closed_accounts(exchange, passes) {
         Ok(accounts) => Ok(write_accounts(&accounts, writer)?),
         Err(error) => Err(S::from(error)),

@@ -1,5 +1,7 @@
 //! A service: the workers of a plan carry calls until a stop.
-ghost use Rattle.std.specs.Prelude.{◌≡◌, ◌+◌, ◌≤◌, length, vec_len};
+ghost use Rattle.std.specs.Prelude.{◌≡◌, ◌+◌, ◌≤◌, IfOk, IsOk, OnOk, if◌then◌else◌, is_ok, length, vec_len};
+ghost use Rattle.peer_plan.specs.Reading.{plan_of};
+ghost use Rattle.worker_setup.specs.Reports.{HasServed};
 
 use crate::control::Control;
 use crate::faults_told::tell_not_bound;
@@ -10,7 +12,6 @@ use crate::service_context::ServiceContext;
 use crate::system::{ServiceDisk, ServiceSystem};
 use control_server::NotBound;
 use exchange_core::{Exchange, NoGate, Pass};
-use exchange_report::{closed_accounts, settle};
 use log::LevelFilter;
 use media_ledger::Blank;
 use peer_lock::{LedgerSet, Service};
@@ -24,7 +25,7 @@ use std::sync::ledger::Ledger;
 use std::time::Instant;
 use udp_workers::{PlanBrand, TurnReport};
 use worker_setup::{
-    ServiceError, first_serial, service_error_name, tell_reports, with_drawn, with_spare_pass,
+    ServiceError, first_serial, service_error_name, tell_served, with_drawn, with_spare_pass,
 };
 
 /// The settings of a service.
@@ -94,6 +95,7 @@ fn serve_beside<J: LedgerSet, P: PlanBrand + Send + Sync, R: ServiceSystem, D: S
 ) -> Result<Vec<TurnReport>, ServiceError>
     requires plan { exchange.now ≡ P.plan }
     requires enough { length exchange.now.workers + 1 ≤ vec_len passes.old }
+    ensures { IfOk result (λ reports. vec_len reports ≡ length exchange.now.workers) }
 {
     match watch_of(context, exchange.plan()) {
         Ok(both) => {
@@ -132,6 +134,7 @@ fn work<
         (opening.octets.parts ≡ length opening.plan.peers + opening.plan.passes) }
     requires steps { (opening.steps.name ≡ S.name) × (opening.steps.parts ≡ S.parts) ×
         (opening.steps.parts ≡ length opening.plan.peers + opening.plan.passes) }
+    ensures { OnOk result (HasServed (length opening.plan.workers) (W.contents writer.old) (W.contents writer.new)) }
 {
     let Opening {
         plan,
@@ -153,14 +156,7 @@ fn work<
         return Err(ServiceError::Memory);
     };
     let reports = serve_beside::<_, P, R, D>(context, &exchange, &mut passes, control, opened);
-    match tell_reports(reports, writer) {
-        Ok(()) => settle(exchange, passes, writer),
-        // Closed and not dropped, because a drop would have to be proved here field by field.
-        Err(error) => {
-            let _accounts = closed_accounts(exchange, passes);
-            Err(error)
-        }
-    }
+    tell_served(reports, exchange, passes, writer)
 }
 
 // Runs the service of a valid plan.
@@ -169,7 +165,9 @@ fn serve_plan<R: ServiceSystem, D: ServiceDisk, W: Write>(
     plan: Plan,
     control: &mut Control<'_>,
     writer: &mut W,
-) -> Result<(), ServiceError> {
+) -> Result<(), ServiceError>
+    ensures { OnOk result (HasServed (length plan.workers) (W.contents writer.old) (W.contents writer.new)) }
+{
     let rt = context.rt;
     let Ok(opened) = Instant::now(rt) else {
         return Err(ServiceError::Clock);
@@ -193,7 +191,10 @@ fn serve_plan<R: ServiceSystem, D: ServiceDisk, W: Write>(
     work::<Brand, Brand, Brand, R, D, W>(context, opening, control, writer)
 }
 
-fn refuse<W: Write>(writer: &mut W, name: &str) -> u8 {
+// Prints a refusal, and returns its status.
+fn refuse<W: Write>(writer: &mut W, name: &str) -> u8
+    ensures { result ≡ 1 }
+{
     let _ = writeln!(writer, "refused {name}");
     1
 }
@@ -203,7 +204,9 @@ fn refuse_way<R: ServiceSystem, D: ServiceDisk, W: Write>(
     context: &ServiceContext<'_, R, D>,
     fault: NotBound,
     writer: &mut W,
-) -> u8 {
+) -> u8
+    ensures { result ≡ 1 }
+{
     tell_not_bound(&context.journal(), context.settings, fault);
     refuse(writer, fault.name)
 }
@@ -214,7 +217,10 @@ fn serve_open<R: ServiceSystem + Files<File = File>, D: ServiceDisk, W: Write>(
     plan: Plan,
     control: &mut Control<'_>,
     writer: &mut W,
-) -> u8 {
+) -> u8
+    ensures status { result ≤ 1 }
+    ensures lines { result ≡ 0 → HasServed (length plan.workers) (W.contents writer.old) (W.contents writer.new) }
+{
     let status = match control.open(context.rt) {
         Ok(()) => status_of(serve_plan(context, plan, control, writer), writer),
         Err(fault) => refuse_way(context, fault, writer),
@@ -228,7 +234,10 @@ fn serve_through<R: ServiceSystem + Files<File = File>, D: ServiceDisk, W: Write
     context: &ServiceContext<'_, R, D>,
     plan: Plan,
     writer: &mut W,
-) -> u8 {
+) -> u8
+    ensures status { result ≤ 1 }
+    ensures lines { result ≡ 0 → HasServed (length plan.workers) (W.contents writer.old) (W.contents writer.new) }
+{
     match Control::new(context) {
         Ok(mut control) => serve_open(context, plan, &mut control, writer),
         Err(error) => refuse_way(context, NotBound::of(&error, "Control"), writer),
@@ -236,7 +245,10 @@ fn serve_through<R: ServiceSystem + Files<File = File>, D: ServiceDisk, W: Write
 }
 
 // Returns the status, and prints a refusal.
-fn status_of<W: Write>(served: Result<(), ServiceError>, writer: &mut W) -> u8 {
+fn status_of<W: Write>(served: Result<(), ServiceError>, writer: &mut W) -> u8
+    ensures status { result ≡ (if is_ok served then 0 else 1) }
+    ensures same { IsOk served → writer.new ≡ writer.old }
+{
     match served {
         Ok(()) => 0,
         Err(error) => match service_error_name(error) {
@@ -271,7 +283,12 @@ pub fn run<R: ServiceSystem + Files<File = File>, D: ServiceDisk, W: Write>(
     context: &ServiceContext<'_, R, D>,
     plan: &[u8],
     writer: &mut W,
-) -> u8 {
+) -> u8
+    ensures status { result ≤ 1 }
+    ensures valid { result ≡ 0 → IsOk (plan_of plan.now) }
+    ensures lines { result ≡ 0 → IfOk (plan_of plan.now)
+        (λ plan. HasServed (length plan.workers) (W.contents writer.old) (W.contents writer.new)) }
+{
     match Plan::read(context.alloc, plan) {
         Ok(plan) => serve_through(context, plan, writer),
         Err(fault) => {

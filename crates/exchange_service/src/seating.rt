@@ -64,6 +64,7 @@ fn told_seats<
 ) -> Result<Vec<ServiceSeat<'x, R, J, P>>, ServiceError>
     requires plan { service.now.exchange.now ≡ P.plan }
     requires enough { length service.now.exchange.now.workers + 1 ≤ vec_len passes.old }
+    ensures each { IfOk result (λ seats. vec_len seats ≡ length service.now.exchange.now.workers) }
     ensures few { IfOk result (λ seats. vec_len seats ≤ 8) }
     ensures left { OnOk result (1 ≤ vec_len passes.new) }
 {
@@ -185,6 +186,7 @@ pub(crate) fn serve_watched<
 ) -> Result<Vec<TurnReport>, ServiceError>
     requires plan { service.now.exchange.now ≡ P.plan }
     requires enough { length service.now.exchange.now.workers + 1 ≤ vec_len passes.old }
+    ensures { IfOk result (λ reports. vec_len reports ≡ length service.now.exchange.now.workers) }
 {
     let OpenService {
         context,

@@ -1,2 +1,3 @@
 pub mod ServiceErrors
 pub mod Drawing
+pub mod Reports

@@ -17,7 +17,7 @@ mod traced_turns;
 pub use clock::SinceOpening;
 pub use digits::Digits;
 pub use drawing::{with_drawn, with_drawn_key};
-pub use reports::{reports_of, tell_reports};
+pub use reports::{reports_of, tell_served};
 pub use seat_context::SeatContext;
 pub use seats::{ServiceSeat, seats_of};
 pub use service_error::{ServiceError, service_error_name};

@@ -7,5 +7,6 @@ invariant-loop g l = record {
   seats : vec_len l.seats + l.counter ≡ l.count;
   reports : vec_len l.reports ≡ l.counter;
   reports_room : vec_capacity l.reports ≡ l.count;
+  passes : vec_len l.passes ≡ vec_len l.initial.passes + l.counter;
   passes_room : vec_len l.passes + vec_len l.seats ≤ vec_capacity l.passes;
 }
