@@ -1,1 +1,2 @@
 mod DecimalLemmas
+mod DigitLemmas

@@ -1,4 +1,9 @@
 //! The output of a replay.
+ghost use Rattle.std.specs.Prelude.{OnOk};
+ghost use Rattle.std.specs.Io.KnownBytes.{Appends};
+ghost use Rattle.exchange_commands.specs.Printed.{datagram_line, refused_line, retired_line, stage_line};
+ghost use Rattle.hex.specs.Hex.{encode_lower};
+
 use crate::viewer::{PeerOfPlan, ReceivedDatagram, Stop, Viewer};
 use exchange_core::Retired;
 use exchange_report::{MediaAccounts, refusal_name, stage_name, write_accounts};
@@ -20,26 +25,29 @@ fn told(written: io::Result<()>) -> Result<(), Stop> {
     }
 }
 
-// Writes two digits for each octet, and ends the line.
-fn write_hex<W: Write>(octets: &[u8], writer: &mut W) -> io::Result<()> {
+// Writes two digits for each octet.
+fn write_digits<W: Write>(octets: &[u8], writer: &mut W) -> io::Result<()>
+    ensures { OnOk result (Appends (W.contents writer.old) (W.contents writer.new) (encode_lower octets.now)) }
+{
     let mut digits = [0; 2];
     for octet in octets {
         let _ = hex::encode_to_slice(&[*octet], &mut digits);
-        if let Err(error) = writer.write_all(&digits) {
-            return Err(error);
-        }
+        writer.write_all(&digits)?;
     }
+    Ok(())
+}
+
+fn write_datagram<W: Write>(peer: &str, octets: &[u8], writer: &mut W) -> io::Result<()>
+    ensures { OnOk result (Appends (W.contents writer.old) (W.contents writer.new) (datagram_line peer.now octets.now)) }
+{
+    write!(writer, "tx {peer} ")?;
+    write_digits(octets, writer)?;
     writer.write_all(b"\n")
 }
 
-fn write_datagram<W: Write>(peer: &str, octets: &[u8], writer: &mut W) -> io::Result<()> {
-    match write!(writer, "tx {peer} ") {
-        Ok(()) => write_hex(octets, writer),
-        Err(error) => Err(error),
-    }
-}
-
-fn write_retired<W: Write>(retired: &Retired, writer: &mut W) -> io::Result<()> {
+fn write_retired<W: Write>(retired: &Retired, writer: &mut W) -> io::Result<()>
+    ensures { OnOk result (Appends (W.contents writer.old) (W.contents writer.new) (retired_line retired.now)) }
+{
     writeln!(
         writer,
         "retired {} {} {} {}",
@@ -50,16 +58,28 @@ fn write_retired<W: Write>(retired: &Retired, writer: &mut W) -> io::Result<()> 
     )
 }
 
+fn write_refused<W: Write>(name: &str, writer: &mut W) -> io::Result<()>
+    ensures { OnOk result (Appends (W.contents writer.old) (W.contents writer.new) (refused_line name.now)) }
+{
+    writeln!(writer, "refused {name}")
+}
+
+fn write_stage<W: Write>(number: u16, stage: Option<Stage>, writer: &mut W) -> io::Result<()>
+    ensures { OnOk result (Appends (W.contents writer.old) (W.contents writer.new) (stage_line number stage)) }
+{
+    writeln!(writer, "leg {} {}", number, stage_name(stage))
+}
+
 impl<W: Write> Viewer for Printer<'_, W> {
     fn received(&mut self, datagram: ReceivedDatagram<'_>) -> Result<(), Stop> {
         match datagram.refusal {
-            Some(refusal) => told(writeln!(self.writer, "refused {}", refusal_name(refusal))),
+            Some(refusal) => told(write_refused(refusal_name(refusal), self.writer)),
             None => Ok(()),
         }
     }
 
     fn refused(&mut self, _moment: u64, name: &'static str) -> Result<(), Stop> {
-        told(writeln!(self.writer, "refused {name}"))
+        told(write_refused(name, self.writer))
     }
 
     fn sent(&mut self, _moment: u64, peer: PeerOfPlan<'_>, octets: &[u8]) -> Result<(), Stop> {
@@ -71,7 +91,7 @@ impl<W: Write> Viewer for Printer<'_, W> {
     }
 
     fn staged(&mut self, _moment: u64, number: u16, stage: Option<Stage>) -> Result<(), Stop> {
-        told(writeln!(self.writer, "leg {} {}", number, stage_name(stage)))
+        told(write_stage(number, stage, self.writer))
     }
 
     fn settled(&mut self, accounts: &MediaAccounts) -> Result<(), Stop> {

@@ -1,5 +1,10 @@
 //! Replays a script, line by line, through an exchange.
-ghost use Rattle.std.specs.Prelude.{◌≡◌, ◌+◌, ◌<◌, ◌^◌, length, IfSome};
+ghost use Rattle.std.specs.Prelude.{◌≡◌, ◌+◌, ◌<◌, ◌≤◌, ◌^◌, ◌⊎◌, Err, IfSome, IsOk, OnOk, if◌then◌else◌, is_ok, length};
+ghost use Rattle.std.specs.Io.KnownBytes.{Appends};
+ghost use Rattle.exchange_commands.specs.Printed.{outcome_line};
+ghost use Rattle.peer_plan.specs.Reading.{plan_of};
+ghost use Rattle.peer_plan.specs.declared.error.PlanError.{PlanError};
+ghost use Rattle.peer_plan.specs.declared.error.PlanError.TheVariants as faults;
 ghost use Rattle.exchange_commands.specs.declared.replaying.ReplayError.TheVariants as errors;
 
 use crate::desk::Desk;
@@ -61,7 +66,9 @@ fn stopped_at(line: usize, stop: Stop) -> ReplayError {
 
 /// Writes why a replay ended, and returns the status: 0 at the end of the script, or else 1. It writes `refused <fault>`,
 /// `refused Script <line>` or `refused Memory`, and nothing if the output can't be written.
-pub fn tell_outcome<W: Write>(outcome: Result<(), ReplayError>, writer: &mut W) -> u8 {
+pub fn tell_outcome<W: Write>(outcome: Result<(), ReplayError>, writer: &mut W) -> u8
+    ensures { result ≡ (if is_ok outcome then 0 else 1) }
+{
     match outcome {
         Ok(()) => 0,
         Err(error) => {
@@ -72,7 +79,9 @@ pub fn tell_outcome<W: Write>(outcome: Result<(), ReplayError>, writer: &mut W) 
 }
 
 // Writes the reason why a replay ended.
-fn write_error<W: Write>(error: ReplayError, writer: &mut W) -> io::Result<()> {
+fn write_error<W: Write>(error: ReplayError, writer: &mut W) -> io::Result<()>
+    ensures { OnOk result (Appends (W.contents writer.old) (W.contents writer.new) (outcome_line error)) }
+{
     match error {
         ReplayError::Plan(fault) => writeln!(writer, "refused {fault}"),
         ReplayError::Script(line) => writeln!(writer, "refused Script {line}"),
@@ -197,7 +206,11 @@ pub fn replay_with<R: Wait, V: Viewer>(
     alloc: Global,
     files: ReplayFiles<'_>,
     viewer: &mut V,
-) -> Result<(), ReplayError> {
+) -> Result<(), ReplayError>
+    ensures valid { IsOk result → IsOk (plan_of files.entry.plan.now) }
+    ensures fault { (fault : PlanError) → plan_of files.entry.plan.now ≡ Err fault →
+        (result ≡ Err (errors.Plan fault)) ⊎ (result ≡ Err (errors.Plan faults.Memory)) }
+{
     match Plan::read(alloc, files.plan) {
         Ok(plan) => play_plan(rt, alloc, plan, files.script, viewer),
         Err(fault) => Err(ReplayError::Plan(fault)),
@@ -278,13 +291,18 @@ pub fn replay<R: Wait, W: Write>(
     alloc: Global,
     files: ReplayFiles<'_>,
     writer: &mut W,
-) -> u8 {
+) -> u8
+    ensures status { result ≤ 1 }
+    ensures valid { result ≡ 0 → IsOk (plan_of files.entry.plan.now) }
+{
     let outcome = replay_with(rt, alloc, files, &mut Printer { writer });
     tell_outcome(outcome, writer)
 }
 
 // Flushes the output and returns the status of a replay. Only the status reports that the output can't be written.
-fn flushed<W: Write>(status: u8, writer: &mut W) -> u8 {
+fn flushed<W: Write>(status: u8, writer: &mut W) -> u8
+    ensures { (result ≡ status) ⊎ (result ≡ 1) }
+{
     match writer.flush() {
         Ok(()) => status,
         Err(_) => 1,
@@ -298,7 +316,10 @@ pub fn replay_buffered<R: Wait, W: Write>(
     alloc: Global,
     files: ReplayFiles<'_>,
     writer: &mut W,
-) -> u8 {
+) -> u8
+    ensures status { result ≤ 1 }
+    ensures valid { result ≡ 0 → IsOk (plan_of files.entry.plan.now) }
+{
     if let Ok(mut buffered) = BufWriter::new(alloc, &mut *writer) {
         let status = replay(rt, alloc, files, &mut buffered);
         return flushed(status, &mut buffered);
