@@ -258,12 +258,7 @@ fn run_plan<R: Program, D: ServiceDisk>(
     plan: &[u8],
     settings: &Settings<'_>,
 ) -> u8 {
-    let context = ServiceContext {
-        rt,
-        disk,
-        alloc,
-        settings,
-    };
+    let context = ServiceContext::new(rt, disk, alloc, settings);
     let status = run_service(&context, plan, &mut io::writer(rt));
     if status != 0 {
         print_faults(rt, alloc, settings.plan_path, plan);

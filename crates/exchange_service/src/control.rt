@@ -90,22 +90,21 @@ impl<'s> Control<'s> {
     /// Answers clients and logs until the workers are to end and each answer is sent.
     pub(crate) fn run<R: Clock + Eprint + Wait, J: LedgerSet>(
         &mut self,
-        rt: &R,
+        log: &Journal<'_, R>,
         desk: &mut ApiHandler<'_, J>,
         opened: Instant,
     ) {
-        let log = Journal::new(rt, self.alloc, self.settings.level);
-        self.begin(&log);
+        self.begin(log);
         // Nothing is logged if there is no memory for the log's state.
         let (calls, trace) = (self.settings.calls, self.settings.trace_path());
         let (plan, watch) = (desk.exchange.plan(), desk.watch);
-        let now = moment(rt, opened, 0);
+        let now = moment(log.rt(), opened, 0);
         let lines = self.settings.call_lines;
-        let mut told = LogState::new(&log, self.alloc, plan, watch, calls, trace, lines, now).ok();
-        let now = self.go_on(&log, desk, &mut told, opened);
+        let mut told = LogState::new(log, self.alloc, plan, watch, calls, trace, lines, now).ok();
+        let now = self.go_on(log, desk, &mut told, opened);
         if let Some(told) = &mut told {
             told.end_rounds();
-            self.tell(&log, desk, told, now);
+            self.tell(log, desk, told, now);
         }
     }
 

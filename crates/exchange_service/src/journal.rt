@@ -22,7 +22,7 @@ pub(crate) struct Journal<'r, R> {
     // The levels that are written.
     level: LevelFilter,
     // The number of lines lost since the last one was written.
-    lost: AtomicU64,
+    lost: &'r AtomicU64,
 }
 
 // Returns the current time, or `None` if the clock can't be read.
@@ -32,13 +32,18 @@ fn moment<R: Clock>(rt: &R) -> Option<Timestamp> {
 }
 
 impl<'r, R> Journal<'r, R> {
-    /// Returns a log of lines up to this level.
-    pub(crate) fn new(rt: &'r R, alloc: Global, level: LevelFilter) -> Journal<'r, R> {
+    /// Returns a log of lines up to this level, which counts lost lines in `lost`.
+    pub(crate) fn new(
+        rt: &'r R,
+        alloc: Global,
+        level: LevelFilter,
+        lost: &'r AtomicU64,
+    ) -> Journal<'r, R> {
         Journal {
             rt,
             alloc,
             level,
-            lost: AtomicU64::new(0),
+            lost,
         }
     }
 
@@ -68,20 +73,21 @@ impl<'r, R: Clock + Eprint> Journal<'r, R> {
 
     // Reports the number of lost lines, if there are any. Returns whether standard error takes lines.
     fn tell_lost(&self) -> bool {
-        let lost = self.lost.load(Ordering::Relaxed);
+        let lost = self.lost.swap(0, Ordering::Relaxed);
         if lost == 0 {
             return true;
         }
-        match self.line(
+        let is_told = match self.line(
             "WARN",
             &format_args!("lines of the log that were lost: {lost}"),
         ) {
-            Ok(line) if self.write(line.as_str()) => {
-                self.lost.store(0, Ordering::Relaxed);
-                true
-            }
-            _ => false,
+            Ok(line) => self.write(line.as_str()),
+            Err(_) => false,
+        };
+        if !is_told {
+            self.lost.fetch_add(lost, Ordering::Relaxed);
         }
+        is_told
     }
 }
 

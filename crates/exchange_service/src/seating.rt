@@ -44,9 +44,10 @@ pub(crate) fn serve_seats<
     control: &mut Control<'_>,
 ) -> bool {
     let (rt, opened) = (service.context.rt, service.opened);
+    let log = service.context.journal();
     thread::scope(thread::scope_env(), rt, |scope| {
         let started = watched.start_until(rt, scope, seats);
-        control.run(rt, desk, opened);
+        control.run(&log, desk, opened);
         started
     })
 }
