@@ -5,5 +5,5 @@ mod asking;
 mod order;
 mod showing;
 
-pub use order::{ControlOrder, order_of};
+pub use order::ControlOrder;
 pub use showing::give_order;

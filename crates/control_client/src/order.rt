@@ -37,28 +37,30 @@ fn plain_order<'w>(word: &str) -> Option<ControlOrder<'w>> {
     }
 }
 
-/// Returns the order that these words name, or `None` if they name none. Orders are `peers`, `calls`, `accounts`, `call
-/// <peer> <number>`, `hangup <number>`, `drain`, `drain off`, `stop` and `stop --graceful`. Names and numbers aren't
-/// checked here.
-pub fn order_of<'w>(words: &'w [String]) -> Option<ControlOrder<'w>> {
-    match words {
-        [word] => plain_order(word.as_str()),
-        [word, number] if word.as_str() == "hangup" => Some(ControlOrder::HangUp(number.as_str())),
-        [word, how] if word.as_str() == "stop" && how.as_str() == "--graceful" => {
-            Some(ControlOrder::StopGracefully)
-        }
-        [word, how] if word.as_str() == "drain" && how.as_str() == "off" => Some(
-            ControlOrder::EndDrain,
-        ),
-        [word, peer, number] if word.as_str() == "call" => Some(ControlOrder::Call {
-            peer: peer.as_str(),
-            number: number.as_str(),
-        }),
-        _ => None,
-    }
-}
-
 impl<'w> ControlOrder<'w> {
+    /// Returns the order that these words name, or `None` if they name none. Orders are `peers`, `calls`, `accounts`, `call
+    /// <peer> <number>`, `hangup <number>`, `drain`, `drain off`, `stop` and `stop --graceful`. Names and numbers aren't
+    /// checked here.
+    pub fn of(words: &'w [String]) -> Option<ControlOrder<'w>> {
+        match words {
+            [word] => plain_order(word.as_str()),
+            [word, number] if word.as_str() == "hangup" => Some(ControlOrder::HangUp(
+                number.as_str(),
+            )),
+            [word, how] if word.as_str() == "stop" && how.as_str() == "--graceful" => {
+                Some(ControlOrder::StopGracefully)
+            }
+            [word, how] if word.as_str() == "drain" && how.as_str() == "off" => Some(
+                ControlOrder::EndDrain,
+            ),
+            [word, peer, number] if word.as_str() == "call" => Some(ControlOrder::Call {
+                peer: peer.as_str(),
+                number: number.as_str(),
+            }),
+            _ => None,
+        }
+    }
+
     // Returns its method.
     fn method(self) -> &'static str {
         match self {

@@ -16,7 +16,7 @@ use crate::usage::Usage;
 use crate::views::{View, view_files};
 use clap::ArgMatches;
 use clap::error::ErrorKind;
-use control_client::{give_order, order_of};
+use control_client::{ControlOrder, give_order};
 use exchange_commands::{ReplayFiles, replay_buffered, serve, turn_count};
 use exchange_service::{
     CallLines, ServiceContext, ServiceDisk, ServiceSystem, Settings, ShownNumbers, TraceOptions,
@@ -166,7 +166,7 @@ fn order_service<R: Net + Print + Eprint + Alloc>(
     socket: &str,
     words: &[String],
 ) -> u8 {
-    match order_of(words) {
+    match ControlOrder::of(words) {
         Some(order) => give_order(rt, alloc, socket, order, &mut io::writer(rt)),
         None => refuse_usage(rt),
     }
