@@ -2,6 +2,7 @@
 ghost use Rattle.std.specs.Prelude.{◌≡◌, ◌+◌, Err, IfErr, IfOk, IsOkAnd, OnOk, length, vec_len};
 ghost use Rattle.std.specs.Io.KnownBytes.{Appends};
 ghost use Rattle.worker_setup.specs.Reports.{HasServed, reports_text};
+ghost use Rattle.worker_setup.specs.declared.service_error.ServiceError.TheVariants as errors;
 
 use crate::seats::ServiceSeat;
 use crate::service_error::ServiceError;
@@ -25,6 +26,7 @@ pub fn reports_of<J: LedgerSet, P: PlanBrand, R: Clock + Wait>(
 ) -> Result<Vec<TurnReport>, ServiceError>
     ensures each { IfOk result (λ reports. vec_len reports ≡ vec_len seats.entry) }
     ensures back { OnOk result (vec_len passes.new ≡ vec_len passes.old + vec_len seats.entry) }
+    ensures memory { IfErr result (λ error. error ≡ errors.Memory) }
 {
     let count = seats.len();
     let mut reports = Vec::with_capacity(alloc, count)?;
