@@ -150,14 +150,18 @@ def shown(line, width=400):
     return line if len(line) <= width else f"{line[:width]} .."
 
 
+def room_of(program):
+    """Returns the folder for a program's temporary files. Each copy of the repository has a separate one."""
+    return Path(tempfile.gettempdir()) / f"{program}-{hashlib.sha1(str(TOP).encode()).hexdigest()[:12]}"
+
+
 def run(options):
     """Does what the options say. Returns the exit status."""
     crates = read_crates()
     if options.crate not in crates:
         raise UsageError(f"crates.txt has no {options.crate}")
     crate = crates[options.crate]
-    # Each copy of the repository has a room of its own.
-    room = Path(tempfile.gettempdir()) / f"quick-check-{hashlib.sha1(str(TOP).encode()).hexdigest()[:12]}"
+    room = room_of("quick-check")
     command = command_for(crate, options, room)
     whole = room / f"{crate.name}.txt"
     with whole.open("w", encoding="utf-8") as output:

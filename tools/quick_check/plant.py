@@ -5,21 +5,19 @@ The prover reads copies of the crates below without bodies and proofs, as quick_
 as proved, which `rt ci` shows. The other options, and the output, are those of `rt plant`.
 """
 import contextlib
-import hashlib
 import importlib.machinery
 import os
 import re
 import subprocess
 import sys
-import tempfile
 import time
 import types
 from pathlib import Path
 
-from wrong_bodies.checks import KIT
-from wrong_bodies.crates import TOP, read_crates
+from wrong_bodies.checks import KIT, source_words
+from wrong_bodies.crates import read_crates
 
-from .__main__ import Options, command_for, functions_of, only_calls
+from .__main__ import Options, command_for, functions_of, only_calls, room_of
 
 # The most seconds that a check of some plants takes; after them it is halved.
 SECONDS = 600
@@ -97,7 +95,7 @@ def check(crate, jobs, room, copy, names):
 def print_own_check(crate, plant):
     """Prints what `rt check` prints of a crate that is proved, as far as `rt plant` reads it."""
     source = plant.bodies.Source(str(crate.folder))
-    source.read("src/main.rt" if (crate.folder / "src/main.rt").is_file() else "src/lib.rt")
+    source.read(source_words(crate)[-1])
     for symbol in symbols_of(crate, source.functions):
         print(f"fn {symbol}: proved")
     print(f"\ncrate {crate.name}: taken as proved")
@@ -111,8 +109,8 @@ def jobs_in(words):
 def run(crate, words):
     """Runs `rt plant` with these options on a crate. Returns the exit status."""
     plant = program()
-    # Each copy of the repository has a room of its own, and in it each crate, so that several crates are tried at once.
-    room = Path(tempfile.gettempdir()) / f"quick-plant-{hashlib.sha1(str(TOP).encode()).hexdigest()[:12]}" / crate.name
+    # Each crate has a separate folder, so that several can be tried at once.
+    room = room_of("quick-plant") / crate.name
     jobs = jobs_in(words)
 
     def own_check(*_):
