@@ -1,3 +1,4 @@
+pub mod Legend
 pub mod MediaRuns
 pub mod Wrapping
 pub mod Xml

@@ -8,12 +8,28 @@ use info_elements::{
 };
 use plain_text::TextBuffer;
 
+// A receiver's report of a call's media, in a PONG ("RR JITTER" to "RR OOO"). The exchange itself skips these.
+const RR_JITTER: u8 = 0x2e;
+
+const RR_LOSS: u8 = 0x2f;
+
+const RR_PKTS: u8 = 0x30;
+
+const RR_DELAY: u8 = 0x31;
+
+const RR_DROPPED: u8 = 0x32;
+
+const RR_OOO: u8 = 0x33;
+
 // The form of an element's value.
 #[derive(Clone, Copy)]
 enum Form {
-    // A number of one octet, and of two.
+    // A number of one octet, of two, and of four.
     Octet,
     Pair,
+    Quad,
+    // A percentage of one octet, and a count of three ("RR LOSS").
+    Loss,
     // The methods of authentication. MD5 is bit 0x0002.
     Methods,
     // Whether the caller ID may be shown, by two bits; the other bits say who verified it.
@@ -26,7 +42,7 @@ enum Form {
 }
 
 // The kinds of elements: the number, the label, and the form of the value.
-const KINDS: [(u8, &str, Form); 17] = [
+const KINDS: [(u8, &str, Form); 23] = [
     (FORMAT, "", Form::Formats),
     (CAPABILITY, "can ", Form::Formats),
     (VERSION, "version ", Form::Pair),
@@ -46,6 +62,12 @@ const KINDS: [(u8, &str, Form); 17] = [
     (MD5_RESULT, "MD5 result", Form::Hidden),
     // The token would let a reader place calls in another's name for some seconds.
     (CALLTOKEN, "call token", Form::Hidden),
+    (RR_JITTER, "RR jitter ", Form::Quad),
+    (RR_LOSS, "RR loss ", Form::Loss),
+    (RR_PKTS, "RR packets ", Form::Quad),
+    (RR_DELAY, "RR delay ", Form::Pair),
+    (RR_DROPPED, "RR dropped ", Form::Quad),
+    (RR_OOO, "RR out of order ", Form::Quad),
 ];
 
 // Returns an element's label and the form of its value, if the value has that form.
@@ -62,7 +84,7 @@ fn fits(form: Form, octets: usize) -> bool {
     match form {
         Form::Octet | Form::Presentation => octets == 1,
         Form::Pair | Form::Methods => octets == 2,
-        Form::Formats => octets == 4,
+        Form::Quad | Form::Loss | Form::Formats => octets == 4,
         Form::Text | Form::Quoted | Form::Hidden => true,
     }
 }
@@ -76,10 +98,18 @@ fn number_in(value: &[u8]) -> u32 {
     number
 }
 
+// Writes a loss: the count, and the percentage.
+fn write_loss(number: u32, out: &mut TextBuffer) {
+    out.number(u64::from(number & 0xff_ffff));
+    out.labelled(" (", u64::from(number >> 24));
+    out.text("%)");
+}
+
 // Writes a number and its meaning.
 fn write_number(form: Form, number: u32, out: &mut TextBuffer) {
     match form {
         Form::Formats => return write_formats(number, out),
+        Form::Loss => return write_loss(number, out),
         Form::Methods if number == 2 => return out.text("MD5"),
         Form::Methods => out.text("methods "),
         _ => {}

@@ -10,6 +10,7 @@ mod elements;
 mod frames;
 mod ladder;
 pub mod laws;
+mod legend;
 mod media_runs;
 mod number_pairs;
 mod pieces;

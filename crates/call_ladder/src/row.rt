@@ -1,4 +1,6 @@
 //! The rows of a ladder, from the first on downwards.
+ghost use Rattle.std.specs.Prelude.{◌≡◌};
+
 use crate::media_runs::{Direction, MediaKind, MediaRun};
 use crate::sides::{Peer, Sides};
 use crate::words::write_count;
@@ -90,6 +92,8 @@ pub(crate) struct Scene<'a> {
 }
 
 impl Row {
+    ghost use Rattle.call_ladder.specs.Legend.{is_shown};
+
     /// Returns a row without text.
     pub(crate) fn new(alloc: Global, kind: RowKind, moment: u64) -> Row {
         Row {
@@ -107,10 +111,13 @@ impl Row {
     }
 
     /// Returns whether it is shown in a ladder of one leg, or of all.
-    pub(crate) fn is_shown(&self, leg: Option<u16>) -> bool {
-        match leg {
-            Some(_) => self.local == leg,
-            None => true,
+    pub(crate) fn is_shown(&self, leg: Option<u16>) -> bool
+        ensures { result ≡ is_shown leg self.now }
+    {
+        match (leg, self.local) {
+            (Some(number), Some(local)) => number == local,
+            (Some(_), None) => false,
+            (None, _) => true,
         }
     }
 

@@ -1,4 +1,5 @@
 //! A ladder as SVG. Lengths are in pixels; a letter of a label is 8 wide at most.
+use crate::legend::write_legend;
 use crate::media_runs::Direction;
 use crate::pieces::write_escaped;
 use crate::row::{Row, Scene};
@@ -27,9 +28,6 @@ const STYLE: &str =
 const HEAD: &str =
     " font-family=\"DejaVu Sans Mono, Menlo, Consolas, monospace\" font-size=\"13\">\n\
 <title>Calls through the exchange</title>\n<style>";
-
-const LEGEND: &[u8] =
-    b"call: source/destination; seq: OSeqno/ISeqno; dashed: sent again; red: refused; grey: media, folded";
 
 // Returns the place of a lifeline, from 0 for the leftmost.
 fn lifeline_x(place: usize) -> u64 {
@@ -204,7 +202,7 @@ fn write_lifelines(scene: &Scene<'_>, bottom: u64, out: &mut TextBuffer) {
     write_lifeline(exchange_x(scene.sides), b"exchange", bottom, out);
 }
 
-// Writes the head of the picture, its styles and its legend.
+// Writes the head of the picture and its styles.
 fn write_head(width: u64, height: u64, out: &mut TextBuffer) {
     out.text("<svg xmlns=\"http://www.w3.org/2000/svg\"");
     write_length("width", width, out);
@@ -215,7 +213,16 @@ fn write_head(width: u64, height: u64, out: &mut TextBuffer) {
     write_length("width", width, out);
     write_length("height", height, out);
     out.text(" fill=\"#fff\"/>\n");
-    write_words(12, height.saturating_sub(12), "k", "start", LEGEND, out);
+}
+
+// Writes the legend of the shown rows, if it has an entry.
+fn write_key(alloc: Global, scene: &Scene<'_>, y: u64, out: &mut TextBuffer) {
+    let mut legend = TextBuffer::new(alloc);
+    write_legend(scene.rows, scene.leg, &mut legend);
+    if !legend.octets.is_empty() {
+        write_words(12, y, "k", "start", &legend.octets, out);
+    }
+    out.is_cut |= legend.is_cut;
 }
 
 /// Returns the picture of the shown rows.
@@ -225,6 +232,7 @@ pub(crate) fn write_svg(alloc: Global, scene: &Scene<'_>) -> TextBuffer {
     let width = lifeline_x(scene.sides.peers().len()).saturating_add(MARGIN);
     let mut out = TextBuffer::new(alloc);
     write_head(width.max(760), bottom.saturating_add(34), &mut out);
+    write_key(alloc, scene, bottom.saturating_add(22), &mut out);
     write_lifelines(scene, bottom, &mut out);
     out.put(&rows.octets);
     out.text("</svg>\n");
