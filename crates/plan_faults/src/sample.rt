@@ -1,26 +1,27 @@
 //! A plan to begin with.
 
-/// A plan of the newest version, for two sites.
-pub const SAMPLE: &str =
-    "# Two sites, and an exchange between them. Put your own addresses, secrets and prefixes in place of these.\n\
+/// A plan of the newest version, for two sites: the text of `contrib/plan.toml`.
+pub const SAMPLE: &str = "# Two sites and the exchange between them. Put your own addresses,\n\
+# secrets and prefixes in place of these.\n\
 format = 4\n\
 \n\
-# A worker is a socket with a thread of its own. Each peer sends to the address and port of its worker.\n\
+# A worker is a thread with a socket. Its peers send to this address.\n\
 [[worker]]\n\
 address = \"192.0.2.1\"\n\
 port = 4569\n\
 \n\
-# A peer is a site: its address, and the secret by which it calls. An Asterisk has a section of the name of this user.\n\
+# A peer is a site. An Asterisk there has a section with the name of\n\
+# this user, and the same secret.\n\
 [[peer]]\n\
 name = \"head-office\"\n\
 address = \"192.0.2.10\"\n\
 port = 4569\n\
 worker = 0\n\
 user = \"exchange\"\n\
-secret = \"choose a long secret for the head office\"\n\
+secret = \"put the secret of the head office here\"\n\
 formats = [\"alaw\", \"ulaw\"]\n\
 trunk = true\n\
-numbers = 64\n\
+numbers = 256\n\
 \n\
 [[peer]]\n\
 name = \"harbour\"\n\
@@ -28,16 +29,20 @@ address = \"198.51.100.20\"\n\
 port = 4569\n\
 worker = 0\n\
 user = \"exchange\"\n\
-secret = \"choose another one for the harbour\"\n\
+secret = \"put the secret of the harbour here\"\n\
 formats = [\"alaw\", \"ulaw\"]\n\
 trunk = true\n\
 numbers = 64\n\
 \n\
-# A called number goes to the peer of the longest prefix that begins it. A route without a source is for the calls of all peers.\n\
+# A called number goes to the peer of the longest prefix with which it\n\
+# begins. A route with a source is only for calls of that peer, so no\n\
+# site's call comes back to it.\n\
 [[route]]\n\
 prefix = \"1\"\n\
+source = \"harbour\"\n\
 peer = \"head-office\"\n\
 \n\
 [[route]]\n\
 prefix = \"2\"\n\
+source = \"head-office\"\n\
 peer = \"harbour\"\n";
