@@ -109,7 +109,7 @@ fn reason(error: &io::Error) -> &'static str {
         ErrorKind::NotFound | ErrorKind::ConnectionRefused => "no service is running there",
         ErrorKind::PermissionDenied => "this user may not connect",
         ErrorKind::WouldBlock | ErrorKind::TimedOut => "the service doesn't answer",
-        ErrorKind::InvalidData => "what answers there is no service",
+        ErrorKind::InvalidData => "the program listening there isn't this service",
         _ => "no answer",
     }
 }

@@ -139,7 +139,7 @@ const RUN: [Row; 12] = [
     (
         "drain",
         Taken::Number("SECONDS", Some("10"), 0, 3600),
-        "How long a stop waits at most for the calls to end",
+        "How long a stop waits at most for its hangups, or a graceful one for calls to end",
     ),
     (
         "calls",
@@ -154,7 +154,7 @@ const RUN: [Row; 12] = [
     (
         "trace-limit",
         Taken::Number("MEBIBYTES", Some("64"), 1, 1048576),
-        "The size of the files that are kept for each worker",
+        "The most that these files have together for each worker",
     ),
     (
         "trace-digits",

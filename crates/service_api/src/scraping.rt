@@ -60,7 +60,7 @@ const OF_CALLS: [Told; 3] = [
     Told {
         kind: Kind::Counter,
         name: "iax_call_records_lost_total",
-        help: "Records of ended call legs that were lost, since too many waited.",
+        help: "Records of ended call legs that were lost because too many waited.",
     },
     Told {
         kind: Kind::Gauge,

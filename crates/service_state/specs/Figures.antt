@@ -38,13 +38,13 @@ help_of figure.Numbers = codes "Call legs that the peer can have at once."
 help_of figure.LegsEnded = codes "Call legs of the peer that have ended."
 help_of figure.Silence = codes "Seconds since the last datagram of the peer."
 help_of figure.Up = codes "Whether the peer is there: 0 if it answers no POKE and sends nothing."
-help_of figure.Unreachable = codes "Seconds for which the peer has been unreachable."
+help_of figure.Unreachable = codes "Seconds since the last datagram of a peer that is unreachable."
 help_of figure.RoundTrip = codes "Milliseconds between the last POKE that the peer answered and its PONG."
 help_of figure.Accepted = codes "Octets of media that came from the peer and were accepted."
 help_of figure.Packed = codes "Octets of media to the peer that were written into frames."
 help_of figure.Queued = codes "Octets of media to the peer that wait for a trunk frame."
 help_of figure.Dropped = codes "Octets of media to the peer that were dropped."
-help_of figure.Quelched = codes "Octets of media that were dropped since the peer wanted none."
+help_of figure.Quelched = codes "Octets of media that were dropped because the peer wanted none."
 
 -- whether a peer is there, as a number; none while that is unknown
 abbrev pub up_value : Reach → Option ℕ

@@ -118,7 +118,7 @@ impl Figure {
             Figure::Unreachable => (
                 Kind::Gauge,
                 "iax_peer_unreachable_seconds",
-                "Seconds for which the peer has been unreachable.",
+                "Seconds since the last datagram of a peer that is unreachable.",
             ),
             Figure::RoundTrip => (
                 Kind::Gauge,
@@ -148,7 +148,7 @@ impl Figure {
             Figure::Quelched => (
                 Kind::Counter,
                 "iax_media_octets_quelched_total",
-                "Octets of media that were dropped since the peer wanted none.",
+                "Octets of media that were dropped because the peer wanted none.",
             ),
         }
     }
