@@ -32,12 +32,19 @@ class Report:
 
     def __init__(self, scene):
         self.scene, self.broken, self.count = scene, 0, 0
+        # The named values of each promise, and the other results of the scene by row.
+        self.promises, self.rows = {}, {}
 
     def tell(self, promise, is_kept, *seen, **named):
+        """Prints whether a promise is kept, with the values seen."""
         said = [str(it) for it in seen] + [f"{name.replace('_', ' ')} {value}" for name, value in named.items()]
         print(f"{self.scene:<10} {'ok' if is_kept else 'BROKEN':<6} {promise}: {', '.join(said)}", flush=True)
         self.count += 1
         self.broken += not is_kept
+        # A scene with several parts makes some promises in each.
+        times = sum(it.partition(" (part ")[0] == promise for it in self.promises)
+        values = {name: value for name, value in named.items() if isinstance(value, (int, float, str))}
+        self.promises[f"{promise} (part {times + 1})" if times else promise] = {"is_kept": bool(is_kept)} | values
 
     def note(self, text):
         print(f"{self.scene:<10}        {text}", flush=True)

@@ -83,15 +83,15 @@ def for_each(seen, network):
     return sum(network[it] for it in CAUSES) / max(1, seen["digits_taken"])
 
 
-def line_of(storm, seconds, seen, network):
-    """Returns a row of the table. Datagrams are those of the whole run, also for each digit; digits are those that came in
-    time."""
+def cells_of(storm, seconds, seen, network):
+    """Returns a row of the table, by the names of its columns. Datagrams are those of the whole run, also for each digit; digits
+    are those that came in time."""
     each, in_time = for_each(seen, network), seen["digits_in_time"]
     path = [storm.path_kbit, storm.queue_ms] if storm.path_kbit else ["any", ""]
     place = [storm.loss, storm.window, *path, storm.retry_ms, storm.vnak_ms]
     numbers = [on_the_way(storm.window), in_time, round(in_time / seconds, 1), round(each, 1), *(network[it] for it in CAUSES)]
     line = [network["line_kbit"], network["waited_ms"], network["no_room"]] if storm.path_kbit else ["", "", ""]
-    return [f"{it}" for it in (*place, *numbers, *line, ended_there(seen))]
+    return dict(zip(NAMES, (*place, *numbers, *line, ended_there(seen))))
 
 
 class Pace:
@@ -160,6 +160,11 @@ class Sums:
             report.tell(promise, not more, storms=len(pairs), others=len(more), first=more[:1])
 
 
+def name_of(storm):
+    """Returns a storm's name in the results."""
+    return ", ".join(f"{name} {value}" for name, value in storm._asdict().items())
+
+
 def storms_of(tables):
     return [Storm(*it) for table in tables for it in itertools.product(*USUAL._replace(**table))]
 
@@ -173,7 +178,10 @@ def run(tools, report, seconds, seed, given=None, spoil=None):
         lasts = pace.begin(storm)
         seen, network, endings = a_storm(tools, storm, lasts, seed, spoil)
         pace.is_over()
-        report.note("| " + " | ".join(line_of(storm, lasts, seen, network)) + " |")
+        cells = cells_of(storm, lasts, seen, network)
+        report.note("| " + " | ".join(f"{it}" for it in cells.values()) + " |")
+        # The name has the first columns.
+        report.rows[name_of(storm)] = {it: cells[it] for it in NAMES[len(storm):] if cells[it] != ""}
         for wrong in sums.add(storm, seen, network, endings):
             report.note(f"wrong in {storm}: {wrong}")
     sums.tell(report)

@@ -180,6 +180,8 @@ def tasks_of(checks, documents):
 
 def run_all(documents, report):
     """Runs all checks over the documents, some at the same time, and prints what the rules that are off would find."""
+    # It is made before threads ask for it: two that make it at the same time would remove each other's.
+    transcripts.program_folder()
 
     def run(task):
         """Returns what a check finds in a page."""

@@ -8,7 +8,7 @@ MODEMS = "iaxmodem refresh peername cidname cidnumber codec ttyIAX1 ttyIAX2 ATA 
 SYSTEM = """LimitFSIZE copytruncate fdatasync journalctl systemctl keepalived lunp ltnp sysctl core rmem_max tcpdump
 tshark traceroute ulimit useradd logrotate mandoc nft udp_segment UDP_SEGMENT recvmmsg sendmmsg SO_REUSEPORT epoll hosts
 iproute udev apt-get sqlite3 awk cat less sum targets Connection Transfer-Encoding
-federate honor_labels POST DELETE GET T10"""
+POST DELETE GET T10"""
 # The toolchain's commands, tactics, files and words.
 TOOLCHAIN = """rattle rattle-kit rattle-kit-13f dac8208d650f15bf doc antt oantt Lts Layout subst declared_send allow_hyphen_values
 grind try_lock"""

@@ -171,5 +171,5 @@ def check_parts(documents):
     gate = (TOP / ".ci/run").read_text(encoding="utf-8")
     runs = re.findall(r"^(?:side_by_side )?(\.ci/.*)$", gate.partition("\nrt ci ")[2], re.M)
     parts = [it.removeprefix(".ci/") for it in first_cells(section_of(documents.text("docs/CHECKS.md"), "## Parts"))]
-    tests = re.findall(r"discover -s (tools/\w+/tests)", gate)
+    tests = re.findall(r"discover -s ((?:tools/\w+|bench/measurements)/tests)", gate)
     return differences(parts, re.findall(r"\.ci/(\w+)", " ".join(runs)) + ["wrong_bodies", *tests, "rt ci"])

@@ -4,9 +4,9 @@ import re
 from .links import LINK, exists, target_of
 
 # Whether each rule makes the check fail. A rule that is off prints how many faults it would find.
-FIRST_MENTIONS_ARE_LINKS = False
-PAGES_ARE_BOUNDED = False
-COMMITS_ARE_REFUSED = False
+FIRST_MENTIONS_ARE_LINKS = True
+PAGES_ARE_BOUNDED = True
+COMMITS_ARE_REFUSED = True
 
 # The most octets of a page, of all pages of docs/ together, and the most characters of a line there.
 BOUNDS = {"docs/GUARANTEES.md": 14_000, "docs/DECISIONS.md": 20_000, "docs/CHECKS.md": 9_000}
@@ -20,8 +20,8 @@ COMMIT = re.compile(r"(?<![\w-])(?=[a-f]*\d)(?=\d*[a-f])[0-9a-f]{7,40}(?![\w-])"
 
 
 def parts_of(text):
-    """Returns the sections of a page, each without its blocks and its heading."""
-    prose = re.sub(r"^ {4}.*$", "", text, flags=re.M)
+    """Returns the sections of a page, each without its blocks, its comments and its heading."""
+    prose = re.sub(r"^ {4}.*$|<!--.*?-->", "", text, flags=re.M)
     return re.split(r"^#+ .*$", prose, flags=re.M)
 
 
