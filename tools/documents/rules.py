@@ -1,7 +1,7 @@
 """Rules of form: links at first mentions, bounds of pages, no commits. Each holds once its switch is on."""
 import re
 
-from .links import LINK, exists, target_of
+from .links import LINK, MADE, exists, target_of
 
 # Whether each rule makes the check fail. A rule that is off prints how many faults it would find.
 FIRST_MENTIONS_ARE_LINKS = True
@@ -31,9 +31,10 @@ def is_ruled(page):
 
 
 def path_of(documents, page, name):
-    """Returns the path of a mentioned file; None if it is none, or the page itself."""
+    """Returns the path of a mentioned file; None if it is none, one that a build makes, or the page itself."""
     path = name if "/" in name else next((it for it in (f"docs/{name}", name) if documents.has(it)), name)
-    return path if exists(documents, path) and path != page and not path.endswith("/") else None
+    is_other = path == page or path.endswith("/") or MADE.search(path)
+    return path if exists(documents, path) and not is_other else None
 
 
 def mentions_in(documents, page, part):
