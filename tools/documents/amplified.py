@@ -1,13 +1,9 @@
-"""What docs/SECURITY.md says of answers: the octets of a sender's datagram, and of the answers that a replay gives."""
+"""The amplification that docs/SECURITY.md states: the octets of a datagram, and of the answers that a replay gives to it."""
 import functools
 import re
-import subprocess
-import tempfile
-from pathlib import Path
 
-from iax_test.service import PROGRAM
-
-from .pages import TOP, cells_of
+from .pages import cells_of
+from .program import ran_over
 from .sources import plan_keys
 
 PAGE, HEADING = "docs/SECURITY.md", "## What an answer can amplify"
@@ -45,13 +41,8 @@ def plan_of(line):
 @functools.cache
 def sizes_of(line, before, last):
     """Returns the octets of a datagram, and those of the answer that a replay gives to it: 0 if there is none."""
-    with tempfile.TemporaryDirectory() as name:
-        folder = Path(name)
-        (folder / "plan").write_text(plan_of(line), encoding="ascii")
-        (folder / "script").write_text(CHALLENGE + "".join(f"rx west {it}\n" for it in (*before, last)), encoding="ascii")
-        words = [*PROGRAM, "replay", str(folder / "plan"), str(folder / "script")]
-        printed = subprocess.run(words, capture_output=True, text=True, timeout=20, check=False).stdout
-    answers = re.findall(r"^tx west ([0-9a-f]+)$", printed, re.M)
+    script = CHALLENGE + "".join(f"rx west {it}\n" for it in (*before, last))
+    answers = re.findall(r"^tx west ([0-9a-f]+)$", ran_over(["replay"], plan_of(line), script).stdout, re.M)
     return len(last) // 2, len(answers[-1]) // 2 if answers else 0
 
 

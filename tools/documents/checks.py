@@ -32,7 +32,7 @@ from .report import Report
 
 @dataclass(frozen=True)
 class Check:
-    """A check: what it compares, its function, the pages that it sees, and whether it takes one page at a time. `cost` is 0 if
+    """A check: its name, its function, the pages that it sees, and whether it takes one page at a time. `cost` is 0 if
     it runs nothing, 1 if it runs the program, 2 if it runs a service."""
 
     what: str

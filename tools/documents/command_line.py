@@ -1,12 +1,10 @@
 """The command line in docs/CLI.md, in the manual pages, in `--help` and wherever a page names an option."""
 import functools
 import re
-import subprocess
-
-from iax_test.service import PROGRAM
 
 from .foreign import OPTIONS
 from .pages import MANUALS, TOP, coded, first_cells, rows_of, section_of
+from .program import ran
 from .report import differences
 from .sources import columns, commands, options, orders
 
@@ -18,7 +16,7 @@ COMMON, GRACEFUL = {"help", "version"}, {"graceful"}
 @functools.cache
 def help_of(command):
     """Returns what the program prints about a command."""
-    return subprocess.run([*PROGRAM, "help", command], capture_output=True, text=True, timeout=20, check=False).stdout
+    return ran("help", command).stdout
 
 
 @functools.cache

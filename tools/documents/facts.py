@@ -9,7 +9,6 @@ import math
 import re
 from dataclasses import dataclass
 
-from .pages import TOP
 from .sources import constant, number_in, options, plan_keys, source
 
 
@@ -32,14 +31,13 @@ def known(path, name):
     return number_in(found.group(1))
 
 
-CRATES = TOP / "crates"
+# The sources that have several facts, or have long names.
 HISTORY, PACKER, ROOM = "seq_window/src/history.rt", "trunk_packer/src/packer.rt", "leg_machine/src/record_room.rt"
 REQUEST, CLIENTS, INTAKE = "control_requests/src/request.rt", "control_server/src/clients.rt", "udp_workers/src/intake.rt"
-# A unit, the words, and where the value is: a source with a constant or a pattern, how often it is taken, and what is added.
 FRAMES, SOCKETS, TEXTS = "iax_frames/src/reading.rt", "worker_setup/src/sockets.rt", "peer_plan/src/reading/texts.rt"
 RUNNING, TELLING, ESTIMATES = "udp_workers/src/running.rt", "service_log/src/telling.rt", "plan_report/src/estimates.rt"
 DIGITS, SECRET, CHALLENGE = "worker_setup/src/digits.rt", "call_signals/src/rules.rt", "call_auth/src/challenge.rt"
-# A unit, the words, and where the value is: a source with a constant or a pattern, how often it is taken, and what is added.
+# A unit, the words, and the place of the value: a source with a constant or a pattern, how often it is taken, and what is added.
 TABLE = (
     ("octets", r"# octets of body|body has more than #", REQUEST, "BODY_LIMIT"),
     ("octets", r"# octets or \d+ fields|head has more than #|# octets of head", REQUEST, "HEAD_LIMIT"),
@@ -145,7 +143,7 @@ TABLE = (
     ("digits", r"call tokens, # hexadecimal", "peer_plan/src/drawn.rt", r"token_key: \[u8; (\d+)\]", 2),
     ("tables", r"\[\[worker\]\]", "peer_plan/src/reading/workers.rt", r"Key::Worker, (\d+)\)"),
     ("tables", r"\[\[peer\]\]", "peer_plan/src/reading/peers.rt", r"Key::Peer, (\d+)\)"),
-    # What tests have.
+    # The sizes of tests.
     ("peers", r"and # peers|routes, # peers", "../.ci/sizes", r"many_peers\(folder, (3\d)\)"),
     ("legs", r"# legs up", "../.ci/sizes", r"west\.port, 0, (\d+)\), \(\"east\""),
     ("legs", r"list of # legs|`: # legs", "../.ci/sizes", r"west\.port, 0, (\d+)\), \(\"east\"", 2),
@@ -166,9 +164,10 @@ def of_table():
     return facts
 
 
-def usual_limit():
-    """Returns the default of `record_limit` in plan version 4."""
-    return known("peer_plan/src/reading.rt", r"if format == 4 \{ ([\d_]+)")
+def usual_limits():
+    """Returns the defaults of `record_limit`: that of plan version 4, and that of versions 1 and 2."""
+    found = re.search(r"if format == 4 \{ ([\d_]+) \} else \{ (\d+)", source("peer_plan/src/reading.rt"))
+    return tuple(map(number_in, found.groups()))
 
 
 def of_plan():
@@ -183,7 +182,7 @@ def of_plan():
         if key.name.endswith("_ms"):
             facts += [Fact("ms", rf"{word}.*default|default.*{word}", (int(key.default),))]
             facts += [Fact("ms", word, (bound,)) for bound in (key.low, key.high)]
-    usual = {it.name: it.default for it in plan_keys().values() if it.default.isdigit()} | {"record_limit": str(usual_limit())}
+    usual = {it.name: it.default for it in plan_keys().values() if it.default.isdigit()} | {"record_limit": str(usual_limits()[0])}
     facts += [Fact("number", rf"^## the keys \| (?:… )?`{name}` \| .* \| #", (int(value),)) for name, value in usual.items()]
     window, port = plan_keys()["window"], plan_keys()["port"]
     facts += [
@@ -245,19 +244,17 @@ def of_program():
 
 def of_estimates():
     """Returns what a call costs its record: the entries of a minute by `ping_ms`, and the intervals that the estimate counts."""
-    estimates = source("plan_report/src/estimates.rt")
+    estimates = source(ESTIMATES)
     pings, others = (number_in(it) for it in re.search(r"([\d_]+) / ping_ms \+ (\d+)", estimates).groups())
-    intervals = re.findall(
-        r"\((\d+)\n?--? ?seconds\)|\((\d+)\s(?:-- )?seconds\)",
-        (CRATES / "plan_report/specs/Estimates.antt").read_text(encoding="utf-8"),
-    )
+    pattern = r"\((\d+)\n?--? ?seconds\)|\((\d+)\s(?:-- )?seconds\)"
+    intervals = re.findall(pattern, source("plan_report/specs/Estimates.antt"))
     words = (r"ping each #", r"lagrqs? each #")
     facts = [Fact("ms", said, (int(one or other) * 1000,)) for said, (one, other) in zip(words, intervals)]
-    default = int(plan_keys()["ping_ms"].default)
+    default, tick = int(plan_keys()["ping_ms"].default), known(RUNNING, "WAIT_MS")
     for words, ping in ((r"some # entries a minute:", default), (r"with 10,000 it is some #", 10_000)):
         facts.append(Fact("entries", words, (round((pings / ping + others) / 60),)))
-    facts.append(Fact("turns", r"last a minute", (60_000 // known(RUNNING, "WAIT_MS"),)))
-    tick, trunk = known(RUNNING, "WAIT_MS"), int(plan_keys()["trunk_ms"].default)
+    facts.append(Fact("turns", r"last a minute", (60_000 // tick,)))
+    trunk = int(plan_keys()["trunk_ms"].default)
     return facts + [
         Fact("ms", r"media of all its calls every #", (trunk,)),
         Fact("ms", r"jitter buffer has to cover #", (tick + trunk,)),
@@ -297,10 +294,10 @@ def of_numbers():
         (r"wait to be sent \| #|# others waited|peer, # at most|most # to each", outbox),
         (r"and # of each worker", waiting),
         (r"use up # serials", known("worker_setup/src/skipping.rt", r"LEAST_SERIAL: u64 = ([^;]+);")),
-        (r"default \| #|default is #", usual_limit()),
+        (r"default \| #|default is #", usual_limits()[0]),
         (r"plan of # routes", known("../.ci/plans", r"(100_000)")),
         (r"300 and # routes", known("../.ci/size_scripts.py", r"count = (5\d+)")),
-        (r"default \| [\d,]+ \| #", known("peer_plan/src/reading.rt", r"if format == 4 .*else \{ (\d+)")),
+        (r"default \| [\d,]+ \| #", usual_limits()[1]),
         (r"with # it is some", 10_000),
         (r"more would be more than #", constant(ROOM, "CHALLENGED_OCTETS")),
         (r"four entries more would be more than #", constant(ROOM, "CHALLENGED_ENTRIES")),
@@ -317,8 +314,8 @@ def of_other_numbers():
         Fact("number", r"port is below #", (known("plan_faults/src/warnings.rt", r"port < (\d+)"),)),
         Fact("number", r"spent \| #", (known("call_signals/src/cause.rt", r"Cause::NoUserResponding => (\d+)"),)),
     ]
-    # The default of versions 1 and 2, that of version 4, and the one in the middle.
-    older, newer = known("peer_plan/src/reading.rt", r"if format == 4 .*else \{ (\d+)"), usual_limit()
+    # The default of versions 1 and 2, the limit in the middle, and the default of version 4.
+    newer, older = usual_limits()
     lengths = ((r"\| # \| 1 hour", older), (r"\| # \| 7 hours", math.isqrt(older * newer)), (r"\| # \| 28 hours", newer))
     return facts + [Fact("number", words, (value,)) for words, value in lengths]
 

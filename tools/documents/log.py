@@ -3,12 +3,12 @@ import functools
 import re
 
 from .pages import coded, rows_of, section_of
-from .sources import function_of, source, sources
+from .sources import source, sources
 
 PAGE, HEADING = "docs/METRICS.md", "## The log"
 SERVICE = ("service_sockets", "control", "faults_told", "journal", "seating")
 LEVELS = ("error", "warn", "info", "debug")
-# What a text may have behind it: a count of a round, the system's error, nothing.
+# The patterns of a text's end: a count of a round, the system's error, nothing.
 COUNTED, FAULT, ALONE = r": \d+ in \d+ s", r": .+", ""
 # The parts of a line that may have blanks.
 LONG = ("error", "silence", "line", "what", "why")

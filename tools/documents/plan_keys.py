@@ -1,15 +1,10 @@
 """The keys of the plan: those of the sources, of docs/PLAN.md, of exchange_main.plan(5) and of the samples of faults."""
 import functools
 import json
-import os
 import re
-import subprocess
-import tempfile
-from pathlib import Path
-
-from iax_test.service import PROGRAM
 
 from .pages import MANUALS, TOP, coded, first_cells, items_of, lines_of, rows_of, section_of
+from .program import ran_over
 from .quantities import flat
 from .report import differences
 from .sources import options, plan_keys, sources
@@ -22,11 +17,7 @@ PLAN = '[[worker]]\naddress = "127.0.0.1"\nport = 4569\n' + PEER
 @functools.cache
 def explained():
     """Returns the defaults that `explain` prints of a plan of version 4, and what it prints of a peer's others."""
-    with tempfile.TemporaryDirectory() as folder:
-        plan = Path(folder, "plan.toml")
-        plan.write_text(f"format = 4\n{PLAN}", encoding="ascii")
-        words = [*PROGRAM, "explain", str(plan)]
-        printed = subprocess.run(words, capture_output=True, text=True, timeout=20, check=False).stdout
+    printed = ran_over(["explain"], f"format = 4\n{PLAN}").stdout
     return dict(re.findall(r"^ +(\w+) (\S+) \(default\)", printed, re.M))
 
 
@@ -34,11 +25,6 @@ def defaults():
     """Returns the default of each key that has one, as the program prints it or the sources have it."""
     found = {key.name: key.default for key in plan_keys().values() if key.default}
     return found | {name: value for name, value in explained().items() if name in plan_keys() and name != "passes"}
-
-
-def with_commas(number):
-    """Returns a number as pages have it."""
-    return f"{number:,}"
 
 
 def check_table(documents):
@@ -53,9 +39,9 @@ def check_table(documents):
             if (
                 key.high
                 and row[1] != "as above"
-                and not re.search(rf"(?<![\d,]){with_commas(key.low)} to {with_commas(key.high)}(?![\d,])", row[1])
+                and not re.search(rf"(?<![\d,]){key.low:,} to {key.high:,}(?![\d,])", row[1])
             ):
-                faults.append(f"{name} is {with_commas(key.low)} to {with_commas(key.high)}")
+                faults.append(f"{name} is {key.low:,} to {key.high:,}")
             told = re.match(r"`?([\w-]+)`?", row[2])
             wanted = defaults().get(name)
             if wanted and (not told or told.group(1) != wanted):
@@ -72,11 +58,7 @@ def is_needed(name):
     """Returns whether the program refuses a plan without this key, by the name `Missing`."""
     plan = f'format = 4\n{PLAN}[[route]]\nprefix = "1"\npeer = "west"\n'
     without = re.sub(rf"^{name} = .*\n", "", plan, count=1, flags=re.M)
-    with tempfile.TemporaryDirectory() as folder:
-        Path(folder, "plan.toml").write_text(without, encoding="ascii")
-        words = [*PROGRAM, "check", f"{folder}/plan.toml"]
-        printed = subprocess.run(words, capture_output=True, text=True, timeout=20, check=False).stdout
-    return printed.startswith("refused Missing")
+    return ran_over(["check"], without).stdout.startswith("refused Missing")
 
 
 def items(documents):
@@ -201,13 +183,7 @@ def takes(name, length):
     plan = plan.replace('name = "west"', lines["name"]) if name == "name" else plan
     plan += lines[name] + "\n" if name in ("user", "secret") else ""
     plan += f'[[route]]\n{lines[name]}\npeer = "west"\n' if name == "prefix" else ""
-    with tempfile.TemporaryDirectory() as folder:
-        Path(folder, "plan.toml").write_text(plan, encoding="ascii")
-        os.chmod(f"{folder}/plan.toml", 0o600)
-        return (
-            subprocess.run([*PROGRAM, "check", f"{folder}/plan.toml"], capture_output=True, timeout=20, check=False).returncode
-            == 0
-        )
+    return ran_over(["check"], plan).returncode == 0
 
 
 def check_schema(documents):

@@ -11,7 +11,7 @@ WORD = rf"(?:{'|'.join(WORDS[1:] + tuple(TENS))})"
 # How many octets, or milliseconds, each unit has; 1 for what is counted.
 SIZES = {"octets": 1, "octet": 1, "bytes": 1, "KiB": 1024, "MiB": 1 << 20}
 TIMES = {"milliseconds": 1, "ms": 1, "s": 1000, "seconds": 1000, "second": 1000}
-# What is counted in words, too: "ten digits".
+# Things that pages also count in words: "ten digits".
 SPOKEN = ("octets", "bytes", "seconds", "milliseconds", "entries", "digits", "letters", "descriptors")
 COUNTED = (
     "entries",

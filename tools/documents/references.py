@@ -1,13 +1,9 @@
 """References with names: refusals, lines of scripts, columns and endings of call records, stages, parts of the gate."""
 import functools
 import re
-import subprocess
-import tempfile
-from pathlib import Path
-
-from iax_test.service import PROGRAM
 
 from .pages import TOP, coded, first_cells, rows_of, section_of
+from .program import ran_over
 from .report import differences
 from .sources import function_of, names_in, source, sources
 from .transcripts import DATA
@@ -53,11 +49,7 @@ def check_order_of_refusals(documents):
 @functools.cache
 def plays(lines):
     """Returns whether the program takes these lines as a script."""
-    with tempfile.TemporaryDirectory() as folder:
-        script = Path(folder, "script")
-        script.write_text("".join(f"{it}\n" for it in lines), encoding="ascii")
-        words = [*PROGRAM, "replay", str(DATA / "plan.toml"), str(script)]
-        return subprocess.run(words, capture_output=True, timeout=20, check=False).returncode == 0
+    return ran_over(["replay", str(DATA / "plan.toml")], "".join(f"{it}\n" for it in lines)).returncode == 0
 
 
 def check_script(documents):

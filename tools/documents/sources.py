@@ -1,4 +1,4 @@
-"""What the sources have: constants, functions, options, keys of the plan with their ranges, statuses and names."""
+"""Facts of the sources: constants, functions, options, keys of the plan with their ranges, statuses and names."""
 import functools
 import re
 import subprocess

@@ -1,13 +1,9 @@
 """The exit statuses that pages state, compared with those of the program."""
 import functools
 import re
-import subprocess
-import tempfile
-from pathlib import Path
-
-from iax_test.service import PROGRAM
 
 from .pages import MANUALS, TOP, items_of, sentences_of
+from .program import ran, ran_over
 from .quantities import flat
 from .transcripts import DATA
 
@@ -16,19 +12,12 @@ HEADED = re.compile(r"^\| (\d+) \|", re.M)
 SKIPPED = 'format = 2\npeer = [{ name = "x", tokens = 1 }]\n'
 
 
-def ran(*words):
-    """Returns the status of the program with these words."""
-    return subprocess.run([*PROGRAM, *words], capture_output=True, timeout=20, check=False).returncode
-
-
 @functools.cache
 def facts():
     """Returns the statuses, each with the words of the sentence, row or item that may state it."""
-    with tempfile.TemporaryDirectory() as folder:
-        skipped = Path(folder, "skipped.toml")
-        skipped.write_text(SKIPPED, encoding="ascii")
-        done, refused = ran("check", str(DATA / "plan.toml")), ran("check", f"{folder}/none")
-        unread, upgraded = ran("check"), ran("plan", "upgrade", str(skipped))
+    runs = (ran("check", str(DATA / "plan.toml")), ran("check", str(DATA / "none")), ran("check"))
+    done, refused, unread = (it.returncode for it in runs)
+    upgraded = ran_over(["plan", "upgrade"], SKIPPED).returncode
     killed = int(re.search(r"-gt (\d+)", (TOP / "contrib/exchange_main-run").read_text(encoding="utf-8")).group(1)) + 9
     return (
         (r"only if the plan is valid", done),

@@ -1,4 +1,4 @@
-"""What docs/TWO_SITES.md shows of a call between two modems: its tables, compared with the plan, the modems' files and each
+"""The call between two modems in docs/TWO_SITES.md: its tables, compared with the plan, the modems' files and each
 other. `transcripts` compares what `check` and `explain` print there."""
 import re
 import tempfile

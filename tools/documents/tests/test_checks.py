@@ -14,7 +14,7 @@ from documents.report import Report, differences  # noqa: E402
 
 
 class Copy(unittest.TestCase):
-    """A page in a folder of its own."""
+    """A test with a page in a new folder."""
 
     def documents(self, page, text):
         """Returns documents whose page has this text."""

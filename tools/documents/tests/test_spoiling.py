@@ -1,4 +1,4 @@
-"""Tests of spoiling: what a spoilt statement becomes, whether a check notices it, and that nothing else changes."""
+"""Tests of spoiling: how a statement is spoilt, whether a check notices it, and that nothing else changes."""
 import random
 import sys
 import tempfile
