@@ -10,6 +10,7 @@ import resource
 import socket
 import subprocess
 import sys
+import time
 import tomllib
 
 from iax_test import plans, service
@@ -22,7 +23,7 @@ from iax_test.waits import Failed
 TOP = os.path.dirname(os.path.dirname(os.path.realpath(__file__)))
 PART = os.path.basename(sys.argv[0])
 # Below those of endurance/, which begin at 11000.
-PORTS = itertools.count(6000 + 1000 * ("service", "control", "call_files", "traces", "sizes").index(PART))
+PORTS = itertools.count(6000 + 800 * ("service", "control", "call_files", "traces", "sizes", "starts").index(PART))
 
 
 def run_checks(main):
@@ -142,11 +143,16 @@ def samples_of(text):
     return samples
 
 
+# The moment of the last scrape of each port. The service makes metrics once a second at most.
+SCRAPED_AT = {}
+
+
 def scraped(port, request=b"GET /metrics HTTP/1.1\r\nHost: x\r\n\r\n"):
     """Returns the status, the body and the fields of the answer at the metrics' address."""
     with socket.create_connection((LOOPBACK, port), timeout=10) as client:
         client.sendall(request)
         head, _, body = read_all(client).partition(b"\r\n\r\n")
+    SCRAPED_AT[port] = time.monotonic()
     lines = head.split(b"\r\n")
     fields = dict(line.split(b": ", 1) for line in lines[1:])
     same("Content-Length", int(fields[b"Content-Length"]), len(body))
@@ -154,6 +160,8 @@ def scraped(port, request=b"GET /metrics HTTP/1.1\r\nHost: x\r\n\r\n"):
 
 
 def metrics(port):
+    """Returns the samples of metrics that are made for this request, if nobody else scrapes the port."""
+    time.sleep(max(0, SCRAPED_AT.get(port, 0) + 1.05 - time.monotonic()))
     status, body, fields = scraped(port)
     same("GET /metrics", (status, fields[b"Content-Type"]), (200, b"text/plain; version=0.0.4"))
     return samples_of(body)

@@ -14,13 +14,15 @@ from iax_test.protocol import ACCEPT, ACK, ANSWER, HANGUP, NEW, PING, REJECT, VN
 from running import TOP, plan_text, same
 
 SCENES = f"{TOP}/crates/exchange_main/scenes"
+# The seconds after which a replay is taken to hang, however slow the machine is.
+LONGEST = 600
 # Beyond 32 bits of milliseconds, which are 49.7 days.
 LATE = 2**32 + 4321
 
 
 def replayed(program, plan, script):
     """Returns the lines that a replay prints."""
-    found = subprocess.run([*program, "replay", plan, script], capture_output=True, timeout=60)
+    found = subprocess.run([*program, "replay", plan, script], capture_output=True, timeout=LONGEST)
     same(f"status of {script}", found.returncode, 0)
     return found.stdout.decode("ascii").splitlines()
 
@@ -120,7 +122,7 @@ def a_call_of_fifty_days(folder, program):
 def five_thousand_digits(folder, program):
     """A record has more than 10,000 entries, and each octet of a sequence number comes many times, in frames with and
     without R: digits are taken in order, a repeat and a gap are distinguished from them, and the counts at the end are
-    those of all frames."""
+    those of all frames. The script has more than a million lines."""
     count = 5000
     plan = written(folder, "digits.plan", plan_text([(LOOPBACK, 4569)], [("west", 5001, 0, 4), ("east", 5002, 0, 4)], "format = 4\nping_ms = 0"))
     script, wanted = [*CALL_UP], [*SAID_UP]
@@ -128,7 +130,7 @@ def five_thousand_digits(folder, program):
         digit, moment = digit_kind(0x30 + place % 10), 20 * place
         # (of every seventh digit the first copy was lost)
         received = full(7, 1, moment, 1 + place, 2, digit, is_retransmitted=place % 7 == 3)
-        script += [f"at {moment}", f"rx west {received}", f"rx east {full(9, 5, 13, 2, 2 + place, ACK)}"]
+        script += [f"at {moment}", f"rx west {received}", f"rx east {full(9, 5, 13, 2, 2 + place, ACK)}", *["tick"] * 200]
         wanted += [f"tx west {full(1, 7, moment, 2, 2 + place, ACK)}", f"tx east {full(5, 9, moment, 1 + place, 2, digit)}"]
     last = count + 1
     # A repeat of the last digit, a frame after the next one, and the next one, which hangs up.
@@ -145,26 +147,60 @@ def five_thousand_digits(folder, program):
     for place, both in enumerate(zip(found, wanted), 1):
         same(f"line {place} of {count} digits", *both)
     same("how many lines", len(found), len(wanted))
+    same("a long script", len(script) > 1_000_000, True)
     return count
 
 
+def all_end_at_once(folder, program):
+    """So many legs whose REJECTs nobody acknowledges end at one tick: each is retired, in the order of their numbers. Of the
+    REJECTs that are sent again at one tick the outbox takes 256."""
+    count, room = 512, 256
+    head = "format = 1\nretry_ms = 1000\nmax_retries = 1\nping_ms = 0"
+    plan = written(folder, "ends.plan", plan_text([(LOOPBACK, 4569)], [("west", 5001, 0, count)], head))
+    numbers = range(1, count + 1)
+    script = [f"rx west {new_frame(own, new_data(b'9', FORMAT)).hex()}" for own in numbers]
+    script += ["at 1000", "tick", "at 10000", "tick", "settle"]
+    data = element(Element.CAUSE, b"unallocated number") + cause_code(1)
+    wanted = []
+    for own in numbers:
+        wanted += [f"tx west {full(own, own, 0, 0, 1, REJECT, data)}", f"leg {own} Closing"]
+    wanted += [f"tx west {full(own, own, 0, 0, 1, REJECT, data, is_retransmitted=True)}" for own in numbers[:room]]
+    wanted += [f"retired {own} 1 0 1" for own in numbers] + [f"leg {own} Free" for own in numbers] + ["octets 0 0 0 0"]
+    found = replayed(program, plan, written(folder, "ends.script", "\n".join(script) + "\n"))
+    for place, both in enumerate(zip(found, wanted), 1):
+        same(f"line {place} of {count} ends", *both)
+    same("how many lines", len(found), len(wanted))
+    return count
+
+
+def a_fault_past_a_million_lines(folder, program):
+    """A fault is named by its line, however many lines precede it."""
+    plan = written(folder, "fault.plan", plan_text([(LOOPBACK, 4569)], [("west", 5001, 0, 4)]))
+    script = written(folder, "fault.script", "#\n" * 10**6 + "stop\n")
+    found = subprocess.run([*program, "replay", plan, script], capture_output=True, timeout=LONGEST)
+    same("a fault past a million lines", (found.stdout, found.returncode), (b"refused Script 1000001\n", 1))
+
+
 def many_routes(folder, program, count):
-    """Each of a hundred calls goes to the peer of the longest prefix, and of two of one length to that of the route for this caller."""
+    """Each of a hundred calls goes to the peer of the longest prefix, and of two of one length to that of the route for this
+    caller. A route without a source that leads to the caller is skipped; one with this source isn't."""
     dice, names = random.Random(count), [f"peer{place}" for place in range(32)]
     peers = [(name, 5001 + place, 0, 128) for place, name in enumerate(names)]
     routes = {}
     while len(routes) < count:
         begun = dice.choice([*routes, ("", None)] if len(routes) < 400 else [("", None)])[0]
         prefix = (begun + "".join(dice.choices("0123456789", k=dice.randrange(1, 5))))[:9]
-        routes.setdefault((prefix, dice.choice([None, None, names[0], names[1]])), dice.choice(names))
+        routes.setdefault((prefix, dice.choice([None, None, names[0], names[1]])), dice.choice([*names, *names[:1] * 4]))
     text = plan_text([(LOOPBACK, 4569)], peers, "format = 4")
     for (prefix, source), target in routes.items():
         text += f'[[route]]\nprefix = "{prefix}"\npeer = "{target}"\n' + (f'source = "{source}"\n' if source else "")
-    script, wanted = [], []
+    script, wanted, skipped = [], [], []
     for own in range(1, 101):
         number = (dice.choice([*routes])[0] + "".join(dice.choices("0123456789", k=4)))[: dice.randrange(1, 13)]
         script.append(f"rx {names[0]} {new_frame(own, new_data(number.encode(), FORMAT)).hex()}")
-        found = [(len(it[0]), it[1] is not None, routes[it]) for it in routes if number.startswith(it[0]) and it[1] in (None, names[0])]
+        fitting = [it for it in routes if number.startswith(it[0]) and it[1] in (None, names[0])]
+        skipped += [number for it in fitting if it[1] is None and routes[it] == names[0]]
+        found = [(len(it[0]), it[1] is not None, routes[it]) for it in fitting if it[1] or routes[it] != names[0]]
         wanted.append((number, max(found)[2] if found else None))
     lines = replayed(program, written(folder, "routes.plan", text), written(folder, "routes.script", "\n".join(script) + "\n"))
     sent = [line.split()[1:3] for line in lines if line.startswith("tx ")]
@@ -173,6 +209,7 @@ def many_routes(folder, program, count):
     same(f"calls by {count} routes", calls, [it for it in wanted if it[1]])
     same("calls without a route", sum(frame.kind == REJECT for frame, _ in frames), sum(it[1] is None for it in wanted))
     same("peers that are called", len({it[1] for it in wanted if it[1]}) > 20, True)
+    same("routes that lead back are skipped, or taken by a source", (len(skipped) > 5, names[0] in dict(wanted).values()), (True, True))
     return count
 
 
@@ -181,5 +218,7 @@ def all_of(folder, program):
     late = scenes_at_late_moments(folder, program)
     a_call_of_fifty_days(folder, program)
     digits = five_thousand_digits(folder, program)
+    ends = all_end_at_once(folder, program)
+    a_fault_past_a_million_lines(folder, program)
     routes = [many_routes(folder, program, it) for it in (300, 5000)]
-    return f"{late} scenes late, a call of fifty days, {digits} digits, {routes[0]} and {routes[1]} routes"
+    return f"{late} scenes late, a call of fifty days, {digits} digits in a million lines, {ends} legs that end at one tick, {routes[0]} and {routes[1]} routes"

@@ -23,7 +23,6 @@
 // late reader adds no latency. If the sender itself gets no processor, it leaves out whole turns of `every_ms` and counts
 // them: bursts are never joined.
 #define _GNU_SOURCE
-#include <arpa/inet.h>
 #include <math.h>
 #include <stdio.h>
 #include <stdlib.h>
@@ -33,6 +32,7 @@
 #include <time.h>
 
 #include "../endurance/program.h"
+#include "../endurance/wire.h"
 #include "paced.h"
 
 // The sender doesn't sleep through a shorter gap than this, in seconds.
@@ -60,19 +60,6 @@ void stop(const char *why) {
     exit(2);
 }
 
-static int wire_of(unsigned port, unsigned exchange) {
-    struct sockaddr_in at = {.sin_family = AF_INET, .sin_port = htons((unsigned short)port)};
-    struct sockaddr_in to = {.sin_family = AF_INET, .sin_port = htons((unsigned short)exchange)};
-    int wire = socket(AF_INET, SOCK_DGRAM, 0), room = 8 << 20, yes = 1;
-    at.sin_addr.s_addr = to.sin_addr.s_addr = htonl(INADDR_LOOPBACK);
-    setsockopt(wire, SOL_SOCKET, SO_RCVBUF, &room, sizeof room);
-    setsockopt(wire, SOL_SOCKET, SO_SNDBUF, &room, sizeof room);
-    setsockopt(wire, SOL_SOCKET, SO_TIMESTAMPNS, &yes, sizeof yes);
-    if (bind(wire, (struct sockaddr *)&at, sizeof at) != 0 || connect(wire, (struct sockaddr *)&to, sizeof to) != 0)
-        stop("a port can't be had");
-    return wire;
-}
-
 static void add_peer(char *text) {
     if (peer_count == MOST_PEERS) stop("too many peers");
     struct peer *peer = &peers[peer_count];
@@ -80,6 +67,7 @@ static void add_peer(char *text) {
     peer->prefix = strtok(NULL, ":");
     if (!peer->prefix) stop("a peer is PORT:EXCHANGE_PORT:PREFIX");
     peer->wire = wire_of((unsigned)atoi(port), (unsigned)atoi(exchange));
+    if (peer->wire < 0) stop("a port can't be had");
     peer->place = peer_count++;
 }
 

@@ -2,12 +2,11 @@
 #ifndef PACED_H
 #define PACED_H
 
+#include "../endurance/latency.h"
 #include "../endurance/leg.h"
 
 enum { MOST_PEERS = 32, MOST_CALLS = 8192, BATCH = 32, GSM = 2 };
 enum { MINI = 4, TRUNK = 8, HEADERS = 28, STAMP = 16, MOST_MEDIA = 160 };
-// A histogram of latencies in nanoseconds, with this number of steps for each doubling.
-enum { STEPS = 64, DOUBLINGS = 40 };
 
 struct call {
     int place, is_answered, is_over;
@@ -40,8 +39,8 @@ struct wanted {
 // The results, by the names that the report has.
 struct seen {
     unsigned long sent, taken, taken_in_time, twice, disordered, strange, unsent, turns, left_out, cut;
-    unsigned long trunks_sent, trunks, entries, minis, voices, wire_octets, latencies[DOUBLINGS * STEPS];
-    long long longest;
+    unsigned long trunks_sent, trunks, entries, minis, voices, wire_octets;
+    struct latencies latencies;
     double set_up, sending, processor;
 };
 
@@ -52,8 +51,6 @@ extern struct wanted wanted;
 extern struct seen seen;
 
 void stop(const char *why) __attribute__((noreturn));
-// The system's clock, which also gives the moments of datagrams.
-long long wall_ns(void);
 // The voice subclass of the calls' media.
 int format_of_calls(void);
 
@@ -65,7 +62,6 @@ void set_up(void);
 // Hangs up all calls, from the side of the callers.
 void hang_up(void);
 
-void count_latency(long long ns);
 // Prints the results, as one line of JSON.
 void report(void);
 

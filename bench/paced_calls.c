@@ -9,18 +9,13 @@
 #include <time.h>
 
 #include "../endurance/program.h"
+#include "../endurance/wire.h"
 #include "paced.h"
 
 // The number of calls that are set up, or hung up, at once; the number of digits of a called number that identify the call.
 enum { AT_ONCE = 64, CALL_DIGITS = 4 };
 
 static int is_ending;
-
-long long wall_ns(void) {
-    struct timespec time;
-    clock_gettime(CLOCK_REALTIME, &time);
-    return time.tv_sec * 1000000000ll + time.tv_nsec;
-}
 
 int format_of_calls(void) { return wanted.octets == 33 ? GSM : ULAW; }
 
@@ -46,7 +41,7 @@ static int is_first(struct call *call, int side, unsigned place) {
 static void count_media(struct call *call, int side, const struct stamp *stamp, long long moment) {
     if (!stamp->is_counted || !is_first(call, side, stamp->place)) return;
     call->taken[side]++, seen.taken++;
-    count_latency(moment - stamp->moment);
+    count_latency(&seen.latencies, moment - stamp->moment);
 }
 
 static void take_media(struct peer *peer, struct leg *leg, const unsigned char *media, unsigned length, long long moment) {
@@ -179,32 +174,6 @@ static void take_datagram(struct peer *peer, const unsigned char *octets, unsign
     } else if (length >= TRUNK && octets[2] == 1) take_trunk(peer, octets, length, moment);
 }
 
-// Returns the system's moment for a datagram.
-static long long moment_of(struct msghdr *head) {
-    for (struct cmsghdr *it = CMSG_FIRSTHDR(head); it; it = CMSG_NXTHDR(head, it))
-        if (it->cmsg_level == SOL_SOCKET && it->cmsg_type == SCM_TIMESTAMPNS) {
-            struct timespec time;
-            memcpy(&time, CMSG_DATA(it), sizeof time);
-            return time.tv_sec * 1000000000ll + time.tv_nsec;
-        }
-    return wall_ns();
-}
-
-// Receives the available datagrams, a batch at most.
-static void receive(struct peer *peer) {
-    static unsigned char octets[BATCH][MOST_OCTETS], more[BATCH][64];
-    struct iovec parts[BATCH];
-    struct mmsghdr all[BATCH];
-    memset(all, 0, sizeof all);
-    for (int place = 0; place < BATCH; place++) {
-        parts[place] = (struct iovec){octets[place], MOST_OCTETS};
-        all[place].msg_hdr.msg_iov = &parts[place], all[place].msg_hdr.msg_iovlen = 1;
-        all[place].msg_hdr.msg_control = more[place], all[place].msg_hdr.msg_controllen = sizeof more[place];
-    }
-    int count = recvmmsg(peer->wire, all, BATCH, MSG_DONTWAIT, NULL);
-    for (int place = 0; place < count; place++) take_datagram(peer, octets[place], all[place].msg_len, moment_of(&all[place].msg_hdr));
-}
-
 void receive_any(double seconds) {
     struct pollfd all[MOST_PEERS];
     struct timespec time = {.tv_nsec = 0};
@@ -212,7 +181,7 @@ void receive_any(double seconds) {
     for (int place = 0; place < peer_count; place++) all[place] = (struct pollfd){peers[place].wire, POLLIN, 0};
     if (ppoll(all, (nfds_t)peer_count, &time, NULL) <= 0) return;
     for (int place = 0; place < peer_count; place++)
-        if (all[place].revents) receive(&peers[place]);
+        if (all[place].revents) receive(&peers[place], take_datagram);
 }
 
 static void place_call(struct call *call) {

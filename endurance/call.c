@@ -7,6 +7,7 @@
 #include <string.h>
 
 #include "program.h"
+#include "wire.h"
 
 struct wanted wanted;
 struct seen seen;
@@ -19,6 +20,10 @@ static unsigned long last_id;
 
 // The time for which a call is watched after its end, for a second HANGUP, in seconds.
 static const double WATCH = 0.4;
+// The time for which a call is quiet at least before its end, in seconds.
+static const double QUIET_FOR = 0.3;
+// The place of the moment in media.
+enum { MOMENT = 8 };
 static const unsigned char FORMAT_OF_CALL[] = {9, 4, 0, 0, 0, ULAW};
 
 // A number that a call's identity, its side and a place in it determine, and that others can't be taken for.
@@ -31,11 +36,13 @@ static unsigned mixed(unsigned long id, int side, unsigned long place) {
 
 static int digit_of(unsigned long id, int side, unsigned place) { return "0123456789ABCD*#"[mixed(id, side, place) & 15]; }
 
-static void write_media(unsigned char media[MEDIA], const struct call *call, int side, unsigned place) {
+// Writes the call, the place and the moment of sending; all other octets follow from these.
+static void write_media(unsigned char media[MEDIA], const struct call *call, int side, unsigned place, long long moment) {
     for (unsigned at = 0; at < MEDIA; at += 4) {
-        unsigned word = at == 0 ? (unsigned)call->id : at == 4 ? place : mixed(call->id, side, place + at);
+        unsigned word = at == 0 ? (unsigned)call->id : at == 4 ? place : mixed(call->id, side, place + at) ^ (unsigned)(moment ^ moment >> 32);
         memcpy(media + at, &word, 4);
     }
+    memcpy(media + MOMENT, &moment, sizeof moment);
 }
 
 static void to_stage(struct call *call, enum stage stage) {
@@ -107,7 +114,7 @@ static void send_media(struct call *call, int side) {
     struct leg *leg = call->ends[side];
     unsigned char mini[4 + MEDIA];
     unsigned timestamp = timestamp_of(leg);
-    write_media(mini + 4, call, side, call->media_sent[side]);
+    write_media(mini + 4, call, side, call->media_sent[side], wall_ns());
     if (leg->voice_high != (long)(timestamp >> 16)) {
         if (!send_numbered(leg, timestamp, VOICE, ULAW, mini + 4, MEDIA)) return;
         leg->voice_high = (long)(timestamp >> 16);
@@ -181,12 +188,16 @@ static void close_call(struct call *call) {
     call->stage = NONE;
 }
 
-// Waits for media that is on its way, so that missing media was lost.
-static double quiet_seconds(void) { return wanted.media_ms ? 0.3 : 0; }
+// Returns whether no media is on its way any more. It is awaited for `quiet_ms` at most, so that missing media was lost.
+static int is_quiet(const struct call *call, double moment) {
+    int has_all = call->media_taken[0] >= call->media_sent[1] && call->media_taken[1] >= call->media_sent[0];
+    double waited = moment - call->changed;
+    return !wanted.media_ms || waited >= wanted.quiet_ms / 1000.0 || (has_all && waited >= QUIET_FOR);
+}
 
 void step_call(struct call *call, double moment) {
     if (call->stage == UP) step_talk(call, moment);
-    if (call->stage == QUIET && moment - call->changed >= quiet_seconds()) hang_up(call);
+    if (call->stage == QUIET && is_quiet(call, moment)) hang_up(call);
     if (call->stage == HANGING && call->hangups[1 - call->hanger] && !held_frames(call->ends[call->hanger])) {
         active--;
         to_stage(call, OVER);
@@ -283,13 +294,15 @@ static void take_media(struct leg *leg, const unsigned char *media, unsigned len
     struct call *call = leg->call;
     unsigned char wanted_media[MEDIA];
     unsigned place = 0;
-    if (length == MEDIA) memcpy(&place, media + 4, 4);
-    write_media(wanted_media, call, 1 - leg->side, place);
+    long long moment = 0;
+    if (length == MEDIA) memcpy(&place, media + 4, 4), memcpy(&moment, media + MOMENT, sizeof moment);
+    write_media(wanted_media, call, 1 - leg->side, place, moment);
     if (length != MEDIA || place >= call->media_sent[1 - leg->side] || memcmp(media, wanted_media, MEDIA) != 0) {
         seen.wrong_media++;
         return;
     }
     call->media_taken[leg->side]++, seen.media_taken++;
+    count_latency(&seen.latencies, leg->peer->came - moment);
 }
 
 static void take_hangup(struct leg *leg) {
@@ -380,8 +393,8 @@ static void take_entry(struct peer *peer, unsigned theirs, const unsigned char *
     if (leg && leg->call && leg->theirs == (theirs & 0x7fff)) take_media(leg, media, length);
 }
 
-void take_datagram(struct peer *peer, const unsigned char *octets, unsigned length) {
-    peer->received++;
+void take_datagram(struct peer *peer, const unsigned char *octets, unsigned length, long long moment) {
+    peer->received++, peer->came = moment;
     if (length >= FULL && octets[0] & 0x80) take_full(peer, octets, length);
     else if (length > 4 && get16(octets)) take_entry(peer, get16(octets), octets + 4, length - 4);
 }

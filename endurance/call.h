@@ -2,6 +2,7 @@
 #ifndef CALL_H
 #define CALL_H
 
+#include "latency.h"
 #include "leg.h"
 
 enum { SLOTS = 8192, MOST_PEERS = 8, MOST_ROUTES = 16, MEDIA = 160, LARGEST_CALL = 10000000, MOST_TOLD = 4096 };
@@ -23,7 +24,7 @@ struct call {
 
 // The parameters of each call.
 struct wanted {
-    unsigned digits, on_the_way, digit_ms, media_ms, hold_ms, early, retry_ms, ping_ms, patience, at_once, total, least;
+    unsigned digits, on_the_way, digit_ms, media_ms, hold_ms, early, retry_ms, ping_ms, quiet_ms, patience, at_once, total, least;
     double rate, seconds;
     unsigned long seed;
 };
@@ -38,6 +39,8 @@ struct seen {
     double first_answer;
     unsigned long digits_in_time;
     double last_stuck_stage;
+    // Of media, from its sender to the system's socket of its receiver.
+    struct latencies latencies;
 };
 
 // A call with a fault: its name in `seen`, and the seconds after the start.
@@ -60,6 +63,7 @@ void place_call(struct peer *from, struct peer *to);
 // Makes the steps of a call that are due: digits, media, the hang-up, retransmissions, its end.
 void step_call(struct call *call, double moment);
 void step_calls(double moment);
-void take_datagram(struct peer *peer, const unsigned char *octets, unsigned length);
+// Handles a datagram that came at this moment, in nanoseconds of the system's clock.
+void take_datagram(struct peer *peer, const unsigned char *octets, unsigned length, long long moment);
 
 #endif

@@ -7,18 +7,16 @@
 // `seconds` no call is placed after that time, except for the `least` number of them; SIGTERM is the end of that time. A
 // call that stays in one stage for `patience` seconds, and `hold_ms`, is stuck.
 #define _GNU_SOURCE
-#include <arpa/inet.h>
-#include <linux/sock_diag.h>
 #include <poll.h>
 #include <stdio.h>
 #include <stdlib.h>
 #include <string.h>
-#include <sys/socket.h>
 
 #include "call.h"
 #include "program.h"
+#include "wire.h"
 
-enum { BATCH = 64, TICK_MS = 5 };
+enum { PLACED_TOGETHER = 64, TICK_MS = 5 };
 
 static struct peer peers[MOST_PEERS];
 static int routes[MOST_ROUTES][2], peer_count, route_count;
@@ -28,17 +26,6 @@ static void stop(const char *why) {
     exit(2);
 }
 
-static int wire_of(unsigned port, unsigned exchange) {
-    struct sockaddr_in at = {.sin_family = AF_INET, .sin_port = htons((unsigned short)port)};
-    struct sockaddr_in to = {.sin_family = AF_INET, .sin_port = htons((unsigned short)exchange)};
-    int wire = socket(AF_INET, SOCK_DGRAM, 0), room = 8 << 20;
-    at.sin_addr.s_addr = to.sin_addr.s_addr = htonl(INADDR_LOOPBACK);
-    setsockopt(wire, SOL_SOCKET, SO_RCVBUF, &room, sizeof room);
-    if (bind(wire, (struct sockaddr *)&at, sizeof at) != 0 || connect(wire, (struct sockaddr *)&to, sizeof to) != 0)
-        stop("a port can't be had");
-    return wire;
-}
-
 static void add_peer(char *text) {
     if (peer_count == MOST_PEERS) stop("too many peers");
     struct peer *peer = &peers[peer_count];
@@ -46,6 +33,7 @@ static void add_peer(char *text) {
     peer->prefix = strtok(NULL, ":"), peer->secret = strtok(NULL, "");
     if (!peer->prefix) stop("a peer is PORT:EXCHANGE_PORT:PREFIX[:SECRET]");
     peer->wire = wire_of((unsigned)atoi(port), (unsigned)atoi(exchange));
+    if (peer->wire < 0) stop("a port can't be had");
     peer->place = peer_count++;
 }
 
@@ -63,7 +51,8 @@ static void set_number(const char *name, const char *value) {
     } all[] = {
         {"digits", &wanted.digits},     {"on_the_way", &wanted.on_the_way}, {"digit_ms", &wanted.digit_ms}, {"media_ms", &wanted.media_ms},
         {"hold_ms", &wanted.hold_ms},   {"early", &wanted.early},           {"retry_ms", &wanted.retry_ms}, {"ping_ms", &wanted.ping_ms},
-        {"patience", &wanted.patience}, {"at_once", &wanted.at_once},       {"total", &wanted.total}, {"least", &wanted.least}};
+        {"quiet_ms", &wanted.quiet_ms}, {"patience", &wanted.patience},     {"at_once", &wanted.at_once},   {"total", &wanted.total},
+        {"least", &wanted.least}};
     for (unsigned place = 0; place < sizeof all / sizeof all[0]; place++)
         if (strcmp(all[place].name, name) == 0) {
             *all[place].at = (unsigned)strtoul(value, NULL, 10);
@@ -76,7 +65,7 @@ static void set_number(const char *name, const char *value) {
 }
 
 static void read_words(int count, char **words) {
-    wanted = (struct wanted){.on_the_way = 10, .retry_ms = 200, .patience = 60, .at_once = 32};
+    wanted = (struct wanted){.on_the_way = 10, .retry_ms = 200, .quiet_ms = 300, .patience = 60, .at_once = 32};
     for (int place = 1; place < count; place++) {
         char *value = strchr(words[place], '=');
         if (!value) stop(words[place]);
@@ -88,25 +77,12 @@ static void read_words(int count, char **words) {
     if (!route_count) stop("no route");
 }
 
-static void receive(struct peer *peer) {
-    static unsigned char octets[BATCH][MOST_OCTETS];
-    struct iovec parts[BATCH];
-    struct mmsghdr all[BATCH];
-    memset(all, 0, sizeof all);
-    for (int place = 0; place < BATCH; place++) {
-        parts[place] = (struct iovec){octets[place], MOST_OCTETS};
-        all[place].msg_hdr.msg_iov = &parts[place], all[place].msg_hdr.msg_iovlen = 1;
-    }
-    int count = recvmmsg(peer->wire, all, BATCH, MSG_DONTWAIT, NULL);
-    for (int place = 0; place < count; place++) take_datagram(peer, octets[place], all[place].msg_len);
-}
-
 static void wait_for_any(int ms) {
     struct pollfd all[MOST_PEERS];
     for (int place = 0; place < peer_count; place++) all[place] = (struct pollfd){peers[place].wire, POLLIN, 0};
     poll(all, (nfds_t)peer_count, ms);
     for (int place = 0; place < peer_count; place++)
-        if (all[place].revents) receive(&peers[place]);
+        if (all[place].revents) receive(&peers[place], take_datagram);
 }
 
 static int may_place(double elapsed) {
@@ -115,7 +91,7 @@ static int may_place(double elapsed) {
 }
 
 static void place_calls(double elapsed) {
-    for (int tries = 0; tries < BATCH && may_place(elapsed); tries++) {
+    for (int tries = 0; tries < PLACED_TOGETHER && may_place(elapsed); tries++) {
         const int *route = routes[seen.placed % (unsigned)route_count];
         place_call(&peers[route[0]], &peers[route[1]]);
     }
@@ -142,14 +118,6 @@ static void run(void) {
     for (double end = now() + 0.6; now() < end; step_calls(now())) wait_for_any(TICK_MS);
 }
 
-// Returns the number of datagrams that the system dropped at a socket.
-static unsigned drops_of(const struct peer *peer) {
-    unsigned counts[SK_MEMINFO_VARS] = {0};
-    socklen_t size = sizeof counts;
-    getsockopt(peer->wire, SOL_SOCKET, SO_MEMINFO, counts, &size);
-    return counts[SK_MEMINFO_DROPS];
-}
-
 static void report(double begun) {
     unsigned long received = 0, sent = 0, resent = 0, inval = 0, drops = 0;
     for (int place = 0; place < peer_count; place++) {
@@ -163,6 +131,7 @@ static void report(double begun) {
     TELL(digits_sent), TELL(digits_taken), TELL(wrong_digits), TELL(lacking_digits), TELL(left_out_digits), TELL(media_sent), TELL(media_taken), TELL(wrong_media);
     TELL(hangups_twice), TELL(hangups_missing), TELL(hangups_back), TELL(offered_twice), TELL(misrouted), TELL(rejected), TELL(cut);
     TELL(inval), TELL(stuck), TELL(bad_answers), TELL(digits_in_time);
+    print_latencies(&seen.latencies);
     printf(", \"last_stuck_stage\": %.0f, \"first_answer\": %.3f", seen.last_stuck_stage,
            seen.answered ? seen.first_answer - begun : -1);
     printf(", \"told\": [");

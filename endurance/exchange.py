@@ -54,11 +54,14 @@ class Tools:
     """The C programs of this folder and of bench/, each built when it is first needed, and the folder for the files of
     scenes."""
 
+    LEG = ("leg.c", "wire.c", "program.c")
+    CALL = ("call.c", "latency.c", "md5.c", *LEG)
     FILES = {
-        "calls": (("calls.c", "call.c", "leg.c", "md5.c", "program.c"), ["-lm"]),
+        "calls": (("calls.c", *CALL), ["-lm"]),
         "network": (("network.c", "program.c"), []),
-        "flood": (("flood.c", "program.c"), []),
-        "paced": (("../bench/paced.c", "../bench/paced_calls.c", "../bench/paced_report.c", "leg.c", "program.c"), ["-lm"]),
+        "flood": (("flood.c", *LEG), []),
+        "floods": (("floods.c", *CALL), ["-lm"]),
+        "paced": (("../bench/paced.c", "../bench/paced_calls.c", "../bench/paced_report.c", "latency.c", *LEG), ["-lm"]),
         "relay": (("../bench/relay.c",), []),
         "faults.so": (("faults.c",), ["-shared", "-fPIC", "-fno-builtin", "-ldl"]),
         "memory.so": (("memory.c",), ["-shared", "-fPIC", "-fno-builtin"]),
@@ -162,6 +165,14 @@ class Exchange(Service):
                 answer += piece
         lines = answer.partition(b"\r\n\r\n")[2].decode().splitlines()
         return {it.rpartition(" ")[0]: int(it.rpartition(" ")[2]) for it in lines if not it.startswith("#")}
+
+    def drops_at(self, port, peer=None):
+        """Returns how many datagrams the system has dropped at the program's sockets of this port, or at the one that is
+        connected to this port of a peer. (The metrics count them only once in ten seconds.)"""
+        with open("/proc/net/udp", encoding="ascii") as it:
+            sockets = [line.split() for line in it]
+        mine = [it for it in sockets if it[1] == f"0100007F:{port:04X}"]
+        return sum(int(it[-1]) for it in mine if peer is None or it[2] == f"0100007F:{peer:04X}")
 
     def kilobytes(self):
         """Resident memory, without that of files, which the system takes and gives back as it likes."""

@@ -1,4 +1,4 @@
-"""A sender without the secret opens as many calls as the peer has numbers, again and again, and fills each with the longest
+"""A sender without the secret opens as many calls as may wait for its answer, again and again, and fills each with the longest
 full frames. The exchange keeps little of it, reports why it ends those legs, and carries the call of another peer."""
 import time
 from collections import Counter
@@ -6,9 +6,11 @@ from collections import Counter
 from exchange import Exchange, plan_of, rows_of, spare_ports, tell_accounts
 from iax_test.frames import FORMAT, FullFrame, is_full, new_data, new_frame
 from iax_test.peers import Peer
-from iax_test.protocol import ACCEPT, ACK, ANSWER, AUTHREQ, TEXT
+from iax_test.protocol import ACCEPT, ACK, ANSWER, AUTHREQ, TEXT, VNAK
 
 NUMBERS, LONGEST = 512, 1388
+# Legs that wait for the answer to a challenge have at most half of the numbers.
+WAITING = NUMBERS // 2
 # The limit on the program's resident memory, in kilobytes.
 MOST = 64 * 1024
 # The number of full frames that a leg sends ahead of the exchange's acknowledgements.
@@ -16,7 +18,7 @@ AHEAD = 8
 
 
 class Filler(Peer):
-    """The sender: a call for each number, over one socket."""
+    """The sender: a call for each number that may wait, over one socket."""
 
     def __init__(self, worker, port):
         super().__init__(worker, port)
@@ -46,12 +48,15 @@ class Filler(Peer):
             self.calls.setdefault(ours, [theirs, 1, 1])
             self.send_octets(FullFrame(ours, theirs, 0, 1, 1, ACK).packed())
         elif ours in self.calls:
-            if frame.kind == ACK:
-                call = self.calls[ours]
-                call[2] += (frame.iseq - call[2]) % 256
-            else:
+            call = self.calls[ours]
+            if frame.kind not in (ACK, VNAK):
                 # It is over: an INVAL, or another end.
                 del self.calls[ours]
+                return
+            call[2] += (frame.iseq - call[2]) % 256
+            if frame.kind == VNAK:
+                # A socket dropped the frame that it asks for: that one and those behind it are sent again.
+                call[1] = call[2]
 
     def fill(self):
         for ours, call in list(self.calls.items()):
@@ -64,7 +69,7 @@ class Filler(Peer):
         """Returns the greatest resident memory in that time, in kilobytes."""
         end, most, looked = time.monotonic() + seconds, 0, 0
         while time.monotonic() < end:
-            for _ in range(max(0, min(16, NUMBERS - len(self.calls)))):
+            for _ in range(max(0, min(16, WAITING - len(self.calls)))):
                 self.open_next()
             self.listen()
             self.fill()

@@ -8,7 +8,6 @@
 // fills the room of the socket, and more. It ends after the given number of datagrams, or of seconds, and prints the counts
 // of the sent datagrams, as one line of JSON.
 #define _GNU_SOURCE
-#include <arpa/inet.h>
 #include <stdio.h>
 #include <stdlib.h>
 #include <string.h>
@@ -16,9 +15,9 @@
 #include <unistd.h>
 
 #include "program.h"
+#include "wire.h"
 
-enum { FULL = 12, MOST_OCTETS = 2200, BURST = 400, PAIRS = 64, NEARLY_EMPTY = 65536 };
-enum { DTMF = 1, VOICE = 2, CONTROL = 4, TEXT = 7, IAX = 6, NEW = 1, ACCEPT = 7 };
+enum { LONGEST = 2200, BURST = 400, PAIRS = 64, NEARLY_EMPTY = 65536, TEXT = 7 };
 enum kind { CALL, FRAME, MINI, TRUNK, VIDEO, CHANCE, KINDS };
 
 static const char *const names[KINDS] = {"calls", "frames", "minis", "trunks", "videos", "by_chance"};
@@ -26,28 +25,13 @@ static unsigned long counts[KINDS], mutated, cut, sent, heard, bursts, long_burs
 // Pairs of a call number of the exchange and one of this sender, from the answers.
 static unsigned pairs[PAIRS][2], pair_count;
 static int wire;
+static unsigned from;
 static unsigned long burst_lengths[2] = {BURST, 20000};
 static const char *prefix = "";
 
-static unsigned below(unsigned bound) { return draw() % bound; }
-
-static void put16(unsigned char *at, unsigned n) { at[0] = (unsigned char)(n >> 8), at[1] = (unsigned char)n; }
-
-static void by_chance(unsigned char *octets, unsigned length) {
-    for (unsigned place = 0; place < length; place++) octets[place] = (unsigned char)below(256);
-}
-
-static unsigned write_head(unsigned char *octets, unsigned source, unsigned destination, int oseq, int iseq, int type, int subclass) {
-    put16(octets, 0x8000u | source), put16(octets + 2, destination);
-    put16(octets + 4, 0), put16(octets + 6, below(65536));
-    octets[8] = (unsigned char)oseq, octets[9] = (unsigned char)iseq;
-    octets[10] = (unsigned char)type, octets[11] = (unsigned char)subclass;
-    return FULL;
-}
-
 static unsigned write_call(unsigned char *octets) {
     static const unsigned char format[] = {9, 4, 0, 0, 0, 4, 8, 4, 0, 0, 0, 4};
-    unsigned length = write_head(octets, 1 + below(32767), 0, 0, 0, IAX, NEW);
+    unsigned length = write_head(octets, 1 + below(32767), 0, below(65536), 0, 0, IAX, NEW);
     int called = snprintf((char *)octets + length + 6, 64, "%s%04u", prefix, below(10000));
     memcpy(octets + length, (unsigned char[]){11, 2, 0, 2, 1, (unsigned char)called}, 6);
     length += 6u + (unsigned)called;
@@ -63,8 +47,8 @@ static unsigned write_frame(unsigned char *octets) {
                                            : type == VOICE ? 4
                                                            : (int)below(20);
     unsigned *pair = pair_count && below(4) ? pairs[below(pair_count)] : (unsigned[]){below(32768), below(16) ? below(32768) : 0};
-    unsigned length = write_head(octets, pair[1], pair[0] | (below(8) ? 0 : 0x8000), (int)below(below(2) ? 4 : 256),
-                                 (int)below(below(2) ? 4 : 256), type, subclass);
+    unsigned length = write_head(octets, pair[1], pair[0] | (below(8) ? 0 : 0x8000), below(65536), below(below(2) ? 4 : 256),
+                                 below(below(2) ? 4 : 256), type, subclass);
     unsigned more = type == VOICE ? 160 : below(3) ? 0 : below(200);
     by_chance(octets + length, more);
     if (type == IAX && subclass == ACCEPT) memcpy(octets + length, (unsigned char[]){9, 4, 0, 0, 0, 4}, more = 6);
@@ -100,7 +84,7 @@ static unsigned write_datagram(unsigned char *octets) {
     case FRAME: length = write_frame(octets); break;
     case MINI: length = write_mini(octets); break;
     case TRUNK: length = write_trunk(octets); break;
-    default: by_chance(octets, length = below(64) ? 1 + below(300) : MOST_OCTETS); break;
+    default: by_chance(octets, length = below(64) ? 1 + below(300) : LONGEST); break;
     }
     // Meta frames: video, and unknown commands.
     if (kind == VIDEO) memset(octets, 0, 2), octets[2] = (unsigned char)below(256);
@@ -120,27 +104,15 @@ static void hear(void) {
     }
 }
 
-// Returns the number of octets that wait at the socket of a port.
-static unsigned long waiting_at(unsigned port) {
-    char line[512];
-    unsigned found_port;
-    unsigned long queue = 0, found;
-    FILE *table = fopen("/proc/net/udp", "r");
-    while (table && fgets(line, sizeof line, table))
-        if (sscanf(line, "%*d: %*x:%x %*x:%*x %*x %*x:%lx", &found_port, &found) == 2 && found_port == port) queue += found;
-    if (table) fclose(table);
-    return queue;
-}
-
 static void wait_for_room(unsigned port, double end) {
-    while (!is_told_to_end && now() < end && waiting_at(port) > NEARLY_EMPTY) {
+    while (!is_told_to_end && now() < end && waiting_at(port, from) > NEARLY_EMPTY) {
         hear();
         usleep(500);
     }
 }
 
 static void flood(unsigned port, unsigned long count, double end) {
-    unsigned char octets[MOST_OCTETS + 512];
+    unsigned char octets[LONGEST + 512];
     while (sent < count && now() < end && !is_told_to_end) {
         int is_long = bursts++ % 8 == 4;
         long_bursts += (unsigned)is_long;
@@ -151,24 +123,15 @@ static void flood(unsigned port, unsigned long count, double end) {
     }
 }
 
-static const char *word_of(int count, char **words, const char *name, const char *otherwise) {
-    size_t length = strlen(name);
-    for (int place = 1; place < count; place++)
-        if (strncmp(words[place], name, length) == 0 && words[place][length] == '=') return words[place] + length + 1;
-    return otherwise;
-}
-
 int main(int count, char **words) {
     unsigned port = (unsigned)atoi(word_of(count, words, "to", "0"));
-    struct sockaddr_in at = {.sin_family = AF_INET, .sin_port = htons((unsigned short)atoi(word_of(count, words, "from", "0")))};
-    struct sockaddr_in to = {.sin_family = AF_INET, .sin_port = htons((unsigned short)port)};
-    at.sin_addr.s_addr = to.sin_addr.s_addr = htonl(INADDR_LOOPBACK);
     end_at_sigterm();
     prefix = word_of(count, words, "prefix", "");
     burst_lengths[1] = strtoul(word_of(count, words, "long_burst", "20000"), NULL, 10);
     set_seed(word_of(count, words, "seed", "1"));
-    wire = socket(AF_INET, SOCK_DGRAM, 0);
-    if (bind(wire, (struct sockaddr *)&at, sizeof at) != 0 || connect(wire, (struct sockaddr *)&to, sizeof to) != 0) return 2;
+    from = (unsigned)atoi(word_of(count, words, "from", "0"));
+    wire = wire_of(from, port);
+    if (wire < 0) return 2;
     flood(port, strtoul(word_of(count, words, "count", "100000"), NULL, 10), now() + atof(word_of(count, words, "seconds", "10")));
     printf("{\"sent\": %lu, \"heard\": %lu, \"bursts\": %lu, \"long_bursts\": %lu, \"mutated\": %lu, \"cut\": %lu", sent, heard, bursts,
            long_bursts, mutated, cut);

@@ -63,7 +63,7 @@ def run(tools, report, seconds, seed):
         seen = reported(calls, lasts + 2 * PATIENCE)
         metrics = exchange.metrics()
         lost = sum(value for name, value in metrics.items() if name.startswith("iax_datagrams_lost_total"))
-        dropped = {"dropped_at_their_worker": metrics.get('iax_socket_drops_total{worker="0"}', 0), "dropped_at_the_peers": seen["drops"]}
+        dropped = {"dropped_at_their_worker": exchange.drops_at(ports["worker0"]), "dropped_at_the_peers": seen["drops"]}
         dropped["lost_in_sending"] = lost
         status, lines = exchange.stop()
     finally:

@@ -51,13 +51,18 @@ void send_octets(struct peer *peer, const void *octets, unsigned length) {
     peer->sent++;
 }
 
+unsigned write_head(unsigned char *octets, unsigned source, unsigned destination, unsigned timestamp, unsigned oseq, unsigned iseq, int type,
+                    int subclass) {
+    put16(octets, 0x8000u | source), put16(octets + 2, destination);
+    put16(octets + 4, timestamp >> 16), put16(octets + 6, timestamp);
+    octets[8] = (unsigned char)oseq, octets[9] = (unsigned char)iseq;
+    octets[10] = (unsigned char)type, octets[11] = (unsigned char)subclass;
+    return FULL;
+}
+
 static unsigned write_full(unsigned char *octets, const struct leg *leg, unsigned timestamp, int type, int subclass, const void *data,
                            unsigned length) {
-    put16(octets, 0x8000u | leg->number);
-    put16(octets + 2, leg->theirs);
-    put16(octets + 4, timestamp >> 16), put16(octets + 6, timestamp);
-    octets[8] = leg->sent, octets[9] = leg->taken;
-    octets[10] = (unsigned char)type, octets[11] = (unsigned char)subclass;
+    write_head(octets, leg->number, leg->theirs, timestamp, leg->sent, leg->taken, type, subclass);
     if (length) memcpy(octets + FULL, data, length);
     return FULL + length;
 }

@@ -42,10 +42,15 @@ struct peer {
     // The leg that has a call number of the exchange, for mini frames.
     struct leg *of_theirs[32768];
     unsigned long received, sent, resent, inval;
+    // The moment at which the current datagram came, in nanoseconds of the system's clock.
+    long long came;
 };
 
 unsigned get16(const unsigned char *at);
 void put16(unsigned char *at, unsigned n);
+// Writes the head of a full frame. Returns its length.
+unsigned write_head(unsigned char *octets, unsigned source, unsigned destination, unsigned timestamp, unsigned oseq, unsigned iseq, int type,
+                    int subclass);
 unsigned timestamp_of(const struct leg *leg);
 
 // A leg with a number that has been free for a while, or NULL.

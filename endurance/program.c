@@ -1,6 +1,7 @@
-// The end of this folder's programs, their clock, and their seed (program.h).
+// The words of this folder's programs, their end, their clock, and their seed (program.h).
 #define _GNU_SOURCE
 #include <stdlib.h>
+#include <string.h>
 #include <time.h>
 
 #include "program.h"
@@ -26,4 +27,17 @@ void set_seed(const char *text) { state = strtoull(text, NULL, 10) * 2 + 1; }
 unsigned draw(void) {
     state = state * 6364136223846793005ull + 1442695040888963407ull;
     return (unsigned)(state >> 33);
+}
+
+unsigned below(unsigned bound) { return draw() % bound; }
+
+void by_chance(unsigned char *octets, unsigned length) {
+    for (unsigned place = 0; place < length; place++) octets[place] = (unsigned char)below(256);
+}
+
+const char *word_of(int count, char **words, const char *name, const char *otherwise) {
+    size_t length = strlen(name);
+    for (int place = 1; place < count; place++)
+        if (strncmp(words[place], name, length) == 0 && words[place][length] == '=') return words[place] + length + 1;
+    return otherwise;
 }

@@ -1,4 +1,4 @@
-// Shared parts of this folder's programs: their end, their clock, their seed.
+// Shared parts of this folder's programs: their words, their end, their clock, their seed.
 #ifndef PROGRAM_H
 #define PROGRAM_H
 
@@ -13,5 +13,11 @@ double now(void);
 // By the number that this text spells, `draw` gives the same numbers of 31 bits each time.
 void set_seed(const char *text);
 unsigned draw(void);
+// Returns a drawn number below a bound.
+unsigned below(unsigned bound);
+// Writes drawn octets.
+void by_chance(unsigned char *octets, unsigned length);
+// Returns the value of the word NAME=VALUE, or `otherwise` without that word.
+const char *word_of(int count, char **words, const char *name, const char *otherwise);
 
 #endif

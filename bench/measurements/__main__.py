@@ -7,7 +7,7 @@
 import sys
 from pathlib import Path
 
-from . import capacity, endurance, performance
+from . import capacity, endurance, performance, security
 from .pages import Unmade, differing, made, part_text
 from .results import TOP, Unmeasured
 
@@ -16,6 +16,7 @@ PAGES = {
     "docs/PERFORMANCE.md": (performance, "bench/results"),
     "docs/CAPACITY.md": (capacity, "bench/results"),
     "docs/ENDURANCE.md": (endurance, "bench/results/endurance"),
+    "docs/SECURITY.md": (security, "bench/results/endurance"),
 }
 
 

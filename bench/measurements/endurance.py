@@ -25,6 +25,10 @@ SEEN = {
         (ANSWERED, "answered", "calls"),
         ("media lacks only where a full socket dropped it", "lacking", "frames of media lack"),
     ),
+    "floods": (
+        ("each flood comes, and has its effect", "datagrams", "datagrams"),
+        ("media lacks only where a full socket dropped it", "lacking", "frames of media lack"),
+    ),
     "fill": (
         ("what isn't authenticated holds little", "calls", "calls"),
         ("what isn't authenticated holds little", "frames", "frames"),
@@ -64,18 +68,19 @@ def length_of(seconds):
 
 
 def scenes(folder):
-    """Makes the table of what each scene has shown, and a line for each machine and day."""
-    rows, machines = [], set()
+    """Makes the table of what each scene has shown, and a line for each machine, with the days."""
+    rows, dates = [], {}
     for name, seen in SEEN.items():
         found = read(folder, name)
         fact = found.fact
         said = [f"{found.figure(promise, value):,} {words}" for promise, value, words in seen]
         is_kept = {promise: values["is_kept"] for promise, values in found.rows.items() if "is_kept" in values}
         said += [f"broken: {promise}" for promise, kept in is_kept.items() if not kept]
-        kept = f"{sum(is_kept.values())} of {len(is_kept)}"
+        kept = len(is_kept) if all(is_kept.values()) else f"{sum(is_kept.values())} of {len(is_kept)}"
         rows.append((f"`{name}`", length_of(fact("seconds")), kept, "; ".join(said)))
-        machines.add(f"{fact('date')}: {place_of(found)}")
-    return "\n".join(sorted(machines)) + "\n\n" + table(("Scene", "Length", "Promises kept", "What was seen"), rows)
+        dates.setdefault(place_of(found), set()).add(fact("date"))
+    machines = sorted(f"{', '.join(sorted(days))}: {place}" for place, days in dates.items())
+    return "\n".join(machines) + "\n\n" + table(("Scene", "Length", "Promises kept", "What was seen"), rows)
 
 
 def storms(folder):

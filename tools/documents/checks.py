@@ -19,6 +19,7 @@ from . import (
     metrics,
     modes,
     names,
+    notes,
     plan_keys,
     references,
     rules,
@@ -103,6 +104,7 @@ QUICK = (
     by_page("lines of a log", log.check_samples, is_page),
     of_pages("pages that sources name", links.check_sources, ""),
     of_pages("crates that make WasRefused", code_names.check_witness, ""),
+    of_pages("calls of locked states", notes.check_notes, ""),
     of_pages("docs/CLI.md, names", command_line.check_names, "docs/CLI.md"),
     of_pages("docs/OPERATING.md, columns", command_line.check_columns, "docs/OPERATING.md"),
     of_pages("docs/PLAN.md, keys", plan_keys.check_table, "docs/PLAN.md", cost=1),
@@ -128,7 +130,7 @@ QUICK = (
     of_pages("docs/CHECKS.md, parts", references.check_parts, "docs/CHECKS.md"),
     of_pages("docs/ARCHITECTURE.md, names", code_names.check_architecture, "docs/ARCHITECTURE.md", "docs/layers.svg"),
     of_pages("clauses", code_names.check_clauses, "docs/CLAUSES.md", "docs/GUARANTEES.md"),
-    of_pages("wrong bodies", code_names.check_wrong_bodies, "docs/GUARANTEES.md", "docs/CHECKS.md"),
+    of_pages("wrong bodies", code_names.check_wrong_bodies, "docs/GUARANTEES.md"),
     of_pages("docs/GUARANTEES.md, promises", code_names.check_promises, "docs/GUARANTEES.md"),
     of_pages("docs/TWO_SITES.md, iax.conf", iax_conf.check, "docs/TWO_SITES.md", "docs/ASTERISK.md", "docs/PLAN.md"),
     of_pages("docs/TWO_SITES.md, the call of modems", tutorial.check, "docs/TWO_SITES.md", cost=1),
@@ -160,7 +162,7 @@ RUNNING = (
     by_page("statuses with names", http.check_prose, lambda page: page == "docs/HTTP.md", 2),
     of_pages("docs/HTTP.md, samples", transcripts.check_samples, "docs/HTTP.md", cost=2),
     of_pages("docs/OPERATING.md, the running service", transcripts.check_running_service, "docs/OPERATING.md", cost=2),
-    of_pages("figures", check_figures, *MEASURED, cost=1),
+    of_pages("figures", check_figures, *MEASURED, "docs/SECURITY.md", cost=1),
     by_page("form", check_form, lambda page: page in MANUALS, 1),
 )
 # The rules of form, each with whether it is on.

@@ -51,7 +51,7 @@ def words_in(text, pattern):
 def check_architecture(documents):
     """Returns the functions and files that docs/ARCHITECTURE.md names and no crate has, and the faults of its picture."""
     page, faults, crate = documents.text(ARCHITECTURE), [], ""
-    for word in words_in(section_of(page, "## Four ways through the code"), r"[\w:]+"):
+    for word in words_in(section_of(page, "## Three ways through the code"), r"[\w:]+"):
         if word not in names_of_sources() and word not in ("west", "east") and word not in crates():
             faults.append(f"no source has {word}")
     for word in words_in(section_of(page, "## Where to look"), r"[\w/.]+"):
@@ -104,16 +104,12 @@ def bodies():
 
 
 def check_wrong_bodies(documents):
-    """Returns the wrong bodies that docs/GUARANTEES.md and docs/CHECKS.md name and no page has."""
-    faults = []
-    for name, heading in (("docs/GUARANTEES.md", "## From a promise to a wrong body"), ("docs/CHECKS.md", "## Wrong bodies")):
-        section = documents.section(name, heading)
-        found = [
-            f"{crate}/{body}" for crate, body in re.findall(r"[` ](\w+)/(\w+)`?(?: \||\n|`;|$|`\.)", section) if crate in crates()
-        ]
-        faults += [f"{name}: no page has {it}" for it in found if it not in bodies()]
-        faults += [] if found or name == "docs/CHECKS.md" else [f"{name} names no wrong body"]
-    return faults
+    """Returns the wrong bodies that docs/GUARANTEES.md names and no page has."""
+    name = "docs/GUARANTEES.md"
+    section = documents.section(name, "## From a promise to a wrong body")
+    words = re.findall(r"[` ](\w+)/(\w+)`?(?: \||\n|`;|$|`\.)", section)
+    found = [f"{crate}/{body}" for crate, body in words if crate in crates()]
+    return [f"{name}: no page has {it}" for it in found if it not in bodies()] or ([] if found else [f"{name} names no wrong body"])
 
 
 def check_promises(documents):
@@ -130,13 +126,44 @@ def check_promises(documents):
     return faults
 
 
-def check_witness(documents):
-    """Returns the files other than those of `memory_requests` that make the fact that a request for memory was refused. (It
-    looks at no page.)"""
-    del documents
-    faults = []
-    for path in [*(TOP / "crates").rglob("*.antt"), *(TOP / "crates").rglob("*.rt")]:
-        if path.parts[len(TOP.parts) + 1] != "memory_requests" and "/out/" not in str(path):
-            if re.search(r"asked_in_vain|unfolding\b.*\bWasRefused", path.read_text(encoding="utf-8")):
-                faults.append(str(path.relative_to(TOP)))
+# The crate that has the fact that a request for memory was refused, and how it is claimed. Each way to it spells this name.
+WITNESS = "memory_refusals"
+# The one crate that claims the fact, in the proofs of its functions, and the line by which it passes on the fact alone.
+ASKING = "memory_requests"
+PASSED_ON = f"pub use Rattle.{WITNESS}.specs.Refused.{{WasRefused}}"
+
+
+def without_comments(text):
+    """Returns a text of a source or a definition without its comments, and with one space for each space and new line."""
+    return " ".join(re.sub(r"(--|//).*", "", text).split())
+
+
+def claims_in(path, text):
+    """Returns whether a file, by its path below `crates/`, names the crate of the fact where it may not."""
+    crate, _, name = path.partition("/")
+    if crate == WITNESS or (crate == ASKING and re.fullmatch(r"proofs/requests/\w+/Answers\.antt", name)):
+        return False
+    text = without_comments(text)
+    if f"{crate}/{name}" == f"{ASKING}/specs/Refused.antt":
+        text = text.replace(PASSED_ON, "", 1)
+    return WITNESS in text
+
+
+def faults_of_witness(lines, files):
+    """Returns the crates of a text like crates.txt that depend on the crate of the fact, other than `memory_requests`, and the
+    files that name it where they may not, or let others unfold the fact. `files` has the texts by their paths below `crates/`."""
+    depend = re.findall(rf"^(\w+)\b.*:.*\b{WITNESS}\b", lines, re.M)
+    faults = [f"{crate} depends on {WITNESS}" for crate in depend if crate != ASKING]
+    faults += [f"{path} names {WITNESS}" for path, text in files.items() if claims_in(path, text)]
+    defined = without_comments(files.get(f"{WITNESS}/specs/Refused.antt", ""))
+    if not re.search(r"(?<!unfoldable )(?<!abbrev )pub WasRefused : Type 0 WasRefused =", defined):
+        faults.append(f"{WITNESS} doesn't keep WasRefused shut")
     return faults
+
+
+def check_witness(documents):
+    """Returns the ways past `memory_requests` to the fact that a request for memory was refused. (It looks at no page.)"""
+    del documents
+    found = [it for end in ("antt", "rt") for it in (TOP / "crates").glob(f"*/*/**/*.{end}") if "/out/" not in str(it)]
+    files = {str(it.relative_to(TOP / "crates")): it.read_text(encoding="utf-8") for it in sorted(found)}
+    return faults_of_witness((TOP / "crates.txt").read_text(encoding="utf-8"), files)

@@ -217,7 +217,7 @@ def ctl_columns(documents):
 def script_values(documents):
     """Finds the values of a script's lines: numbers, and the lines that may precede one."""
     page, heading = "docs/SCRIPT.md", "## Lines"
-    found = in_section(documents, page, heading, r"(?<=\| )`[a-z]+ <[a-z]+>` \| .*\|$|(?<=\| )`(?:serial|key|prefix).*\|$")
+    found = in_section(documents, page, heading, r"(?<=\| )`[a-z]+ <[a-z]+>` \| .*\|$|(?<=\| )`(?:serial|key|offset|prefix).*\|$")
     spoilable = []
     for line in found:
         base = line.text.index("|")

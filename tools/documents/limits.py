@@ -4,7 +4,7 @@ import re
 
 from . import amplified
 from .facts import facts
-from .pages import MANUALS, MEASURED, sentences_of
+from .pages import MANUALS, MEASURED, MEASURED_PART, sentences_of
 from .quantities import number_of, quantities_of
 
 # Pages about development: they have times of proofs, which no source has.
@@ -39,12 +39,13 @@ def own_values(documents, page, quantity):
 
 
 def quantities(documents, page):
-    """Returns the quantities of a page that are compared: all but those of examples in code."""
+    """Returns the quantities of a page that are compared: all but those of examples in code, and of measurements."""
     text = documents.text(page)
     found = quantities_of(page, text)
     if page in MANUALS:
         return found
-    spans = [it.span() for it in re.finditer(r"`[^`\n]*`", text)]
+    spans, parts = ([it.span() for it in re.finditer(pattern, text)] for pattern in (r"`[^`\n]*`", MEASURED_PART))
+    found = [it for it in found if not any(a < it.start < b for a, b in parts)]
     shown = [it for it in found if it.unit in ("range", "values") or not any(a < it.start < b for a, b in spans)]
     # The replays of `amplified` have these.
     return [it for it in shown if not it.context.startswith(amplified.HEADING)]

@@ -21,7 +21,7 @@ def labels():
         if used:
             found[names[used.group(1)]] = ("peer", *re.findall(r'push_count\([^"]*"(\w+)"', function))
     found[names["OUTBOX_LOST"]] = tuple(re.findall(r'name: "([a-z]+)"', lost))
-    found[names["DROPPED"]] = tuple(re.findall(r'name: "([a-z]+)"', function_of(scraping, "push_counts")))
+    found[names["DROPPED"]] = tuple(re.findall(r'name: "([a-z]+)"', function_of(scraping, "push_drops")))
     for listed in re.findall(r"const OF_\w+: \[Told; \d+\] = \[(.*?)\n\];", scraping, re.S):
         found |= {it: () for it in re.findall(r'"(iax_\w+)"', listed)}
     return found

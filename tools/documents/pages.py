@@ -11,6 +11,8 @@ FILES = ("README.md", "CONTRIBUTING.md", "CHANGELOG.md")
 MANUALS = ("contrib/exchange_main.1", "contrib/exchange_main-run.1", "contrib/exchange_main.plan.5")
 # Pages of measurements: bench/pages compares their figures with the results in bench/results.
 MEASURED = ("docs/PERFORMANCE.md", "docs/CAPACITY.md", "docs/ENDURANCE.md", "bench/README.md")
+# A part of measurements in another page, which bench/pages compares too.
+MEASURED_PART = re.compile(r"^<!-- made by pages: .*?^<!-- end -->$", re.M | re.S)
 
 
 class Documents:

@@ -67,7 +67,7 @@ def check_script(documents):
 
 
 # The lines that come first in a script, in this order.
-FIRST = ("prefix", "key", "free", "serial")
+FIRST = ("prefix", "offset", "key", "free", "serial")
 
 
 def filled_line(line):
@@ -117,6 +117,7 @@ def faults_of_line(word, text):
 
 LINES = {
     "prefix": "prefix x",
+    "offset": "offset 0",
     "key": f"key {'0' * 64}",
     "serial": "serial 0",
     "free": "free west 1-4",

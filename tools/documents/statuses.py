@@ -18,7 +18,7 @@ def facts():
     runs = (ran("check", str(DATA / "plan.toml")), ran("check", str(DATA / "none")), ran("check"))
     done, refused, unread = (it.returncode for it in runs)
     upgraded = ran_over(["plan", "upgrade"], SKIPPED).returncode
-    killed = int(re.search(r"-gt (\d+)", (TOP / "contrib/exchange_main-run").read_text(encoding="utf-8")).group(1)) + 9
+    killed = int(re.search(r'"\$status" -gt (\d+)', (TOP / "contrib/exchange_main-run").read_text(encoding="utf-8")).group(1)) + 9
     return (
         (r"only if the plan is valid", done),
         (r"end with status|memory or the output", refused),

@@ -6,7 +6,7 @@ import time
 from .frames import FORMAT, FullFrame, is_full, new_data
 from .ports import LOOPBACK
 from .protocol import ACCEPT, ACK, ANSWER, NEW, REJECT, UNNUMBERED
-from .waits import within
+from .waits import PATIENCE, within
 
 # Octets that a datagram may have, and room for those that wait at a peer's socket.
 LONGEST, ROOM = 4096, 1 << 22
@@ -110,13 +110,13 @@ class Peer:
             self.frames.append(FullFrame.read(octets))
 
     def frame(self, what, kind):
-        """Waits at most five seconds for a frame of this kind, and returns the last one. Keeps all frames."""
+        """Waits for a frame of this kind, and returns the last one. Keeps all frames."""
 
         def look():
             self.listen_until_quiet()
             return next((frame for frame in reversed(self.frames) if frame.kind == kind), None)
 
-        return within(f"{what} at a peer", 5, look)
+        return within(f"{what} at a peer", PATIENCE, look)
 
     def expect(self, fits, seconds=20):
         """Returns the next frame for which `fits` is true, or None after `seconds` seconds. Drops those before it."""

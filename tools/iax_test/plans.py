@@ -18,9 +18,9 @@ def peer_text(keys, plan_format=1):
 
 def plan_text(keys, workers, peers, routes=()):
     """Returns the text of a plan: its keys, its workers, each an address and a port, its peers, each by its keys, and its
-    routes, each a prefix and the name of a peer."""
+    routes, each a prefix, the name of a peer, and that of its source if it has one."""
     text = lines_of(keys)
     for address, port in workers:
         text += "[[worker]]\n" + lines_of({"address": address, "port": port})
     text += "".join(peer_text(peer, keys["format"]) for peer in peers)
-    return text + "".join("[[route]]\n" + lines_of({"prefix": prefix, "peer": name}) for prefix, name in routes)
+    return text + "".join("[[route]]\n" + lines_of(dict(zip(("prefix", "peer", "source"), route))) for route in routes)

@@ -2,6 +2,10 @@
 import time
 
 
+# The seconds after which a wait for a state gives up. It bounds a program that hangs, however slow the machine is.
+PATIENCE = 60
+
+
 class Failed(Exception):
     """A check that failed, or that can't continue. The message says which."""
 
@@ -14,6 +18,15 @@ def within(what, seconds, look):
             return found
         time.sleep(0.02)
     raise Failed(f"{what}: not within {seconds} s")
+
+
+def becomes(what, look, wanted, seconds=PATIENCE):
+    """Waits until `look` returns what is wanted. Raises `Failed` after `seconds` seconds, with what it returned last."""
+    end = time.monotonic() + seconds
+    while (found := look()) != wanted:
+        if time.monotonic() > end:
+            raise Failed(f"{what}: {found!r}, not {wanted!r} within {seconds} s")
+        time.sleep(0.02)
 
 
 def is_bound(port):

@@ -13,6 +13,7 @@ use Rattle.call_book.specs.declared.errors.ReserveError.{ReserveError}
 use Rattle.call_book.specs.declared.errors.ReserveError.TheVariants.{SerialsSpent, NoNumber}
 use Rattle.call_book.specs.declared.errors.BridgeError.{BridgeError}
 use Rattle.call_book.specs.declared.errors.BridgeError.TheVariants.{Same, Stale, Bridged}
+use Rattle.call_book.specs.declared.errors.Stale.{Stale as Unknown}
 
 pub record Book : Type 0 where
   -- the count of each peer's numbers
@@ -111,6 +112,11 @@ bridge_answer book a b =
 abbrev pub bridged : Book → LegName → LegName → Book
 bridged book a b = record book { partners = insert (insert book.partners a.number b) b.number a }
 
+-- the book after a bridge with this answer
+abbrev pub after_bridge : Book → LegName → LegName → Result (Unit {0}) BridgeError → Book
+after_bridge book a b (Ok done) = bridged book a b
+after_bridge book a b (Err error) = book
+
 -- the partner of a name that the book has
 abbrev pub partner_of : Book → LegName → Option LegName
 partner_of book name = if has_name book name then get book.partners name.number else None
@@ -127,3 +133,10 @@ released book name =
       partners = unbridged book.partners name.number (get book.partners name.number);
       free = slice_set book.free name.peer (free_of book name.peer ++ name.number ∷ []);
     }
+
+-- the book after a release of a name that it has or not, and its answer
+abbrev pub after_release : Book → LegName → Bool → Book
+after_release book name known = if known then released book name else book
+
+abbrev pub release_answer : Book → LegName → Bool → Result (Option LegName) Unknown
+release_answer book name known = if known then Ok (partner_of book name) else Err (record {})

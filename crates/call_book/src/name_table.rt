@@ -1,5 +1,5 @@
 //! Names by number, in an array.
-ghost use Rattle.std.specs.Prelude.{◌≡◌, ◌<◌, Some, None, IfOk, OnErr};
+ghost use Rattle.std.specs.Prelude.{◌≡◌, ◌+◌, ◌*◌, ◌<◌, ◌≤◌, Some, None, IfOk, OnErr};
 ghost use Rattle.std.specs.FinMap.{empty, get, insert, remove};
 ghost use Rattle.memory_requests.specs.Refused.{WasRefused};
 
@@ -27,8 +27,9 @@ impl Model for NameTable {
 }
 
 impl NameTable {
-    // Returns `places` places without a name.
+    // Returns `places` places without a name: at most one for each number of 32 peers, and one for 0.
     pub(crate) fn new(alloc: Global, places: usize) -> Result<NameTable, AllocError>
+        requires few { places ≤ 32 * 512 + 1 }
         ensures empty { IfOk result (λ table. table ≡ record { names = empty; places = places }) }
         ensures no_memory { OnErr result WasRefused }
     {

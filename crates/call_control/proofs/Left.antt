@@ -5,6 +5,7 @@ use Rattle.call_control.specs.declared.reply.Reply.TheVariants as replies
 use Rattle.call_signals.specs.declared.signal.Signal.TheVariants as signals
 use Rattle.peer_lock.specs.Seen as peer
 use Rattle.std.proofs.lemmas.List.{length-map}
+use Rattle.std.specs.Prelude.{is_some}
 use Rattle.call_control.specs.MediaLeft.{media_at, media_left, media_needed, handed_by, media_of}
 use Rattle.call_signals.specs.Message.{is_vnak, message_of}
 use Rattle.call_signals.specs.declared.message.Message.{Message}
@@ -14,11 +15,13 @@ use Rattle.iax_frames.specs.TrunkFrame.{TrunkFrame, entry_item, is_timed}
 use Rattle.iax_frames.specs.declared.datagram.Datagram.TheVariants.{Full, Mini, Trunk}
 use Rattle.leg_machine.specs.Leg.{LegState}
 use Rattle.leg_machine.specs.Openings.{open_in_step}
-use Rattle.leg_machine.specs.Steps.{full_step, message_step}
+use Rattle.leg_machine.specs.Steps.{Step, full_step, message_step, nothing_sent, numbered_step}
+use Rattle.leg_machine.specs.Working.{is_unaddressed, refusal}
 use Rattle.peer_lock.specs.CarriedMedia.{LiesWithin, handed_octets}
 use Rattle.peer_lock.specs.Delivery.{Delivery, Reaches, delivery}
 use Rattle.peer_lock.specs.Grants.{granted}
 use Rattle.peer_lock.specs.Peer.{handed_up}
+use Rattle.peer_lock.specs.TrunkEntries.{taken_by, taker}
 use Rattle.call_control.proofs.Prelude.{◌≡◌, Some, None, Bool, true, false, refl, ℕ, ◌+◌, ◌≤◌, List, [], ◌∷◌, ◌++◌, arith, inl}
 use Rattle.call_control.proofs.Prelude.{inr, ◌⊎◌, Option, cond, length, map, sym, subst, AllByRecursion, Ok, Err, is_same}
 use Rattle.call_control.proofs.Prelude.{LegName, signals_put, step_puts, OpensFew, brought_by, datagrams_left, need_puts}
@@ -162,12 +165,36 @@ full_brings first peer frame now = go (delivery peer frame now)
     )
     go to = omega arith
 
--- a VNAK hands up nothing, or the end of its call
+-- these hand up nothing, or the end of a call
+abbrev IsQuiet : Option Signal → Type 0
+IsQuiet signal = (signal ≡ None) ⊎ (signal ≡ Some signals.Hangup)
+
+-- so does a VNAK,
 vnak_signal : (message : Message) (leg : LegState) (frame : FullFrame) (now : ℕ) → is_vnak message ≡ true
-    → ((message_step message leg frame now).signal ≡ None) ⊎ ((message_step message leg frame now).signal ≡ Some signals.Hangup)
+    → IsQuiet (message_step message leg frame now).signal
 vnak_signal message leg frame now is = grind arith
 
-quiet : (first accepted : ℕ) (name : LegName) (signal : Option Signal) → (signal ≡ None) ⊎ (signal ≡ Some signals.Hangup)
+-- also one of destination 0
+bare_signal : (message : Message) (leg : LegState) (frame : FullFrame) (now : ℕ) → is_vnak message ≡ true
+    → IsQuiet (numbered_step leg frame message now).signal
+bare_signal message leg frame now is = grind arith
+
+-- .. and one that is refused
+by_tests : (refused alone : Bool) (none bare heard : Step) → IsQuiet none.signal → IsQuiet bare.signal → IsQuiet heard.signal
+    → IsQuiet (cond refused none (cond alone bare heard)).signal
+by_tests true alone none bare heard none_is bare_is heard_is = none_is
+by_tests false true none bare heard none_is bare_is heard_is = bare_is
+by_tests false false none bare heard none_is bare_is heard_is = heard_is
+
+full_signal : (leg : LegState) (frame : FullFrame) (now : ℕ) → is_vnak (message_of frame.head) ≡ true
+    → IsQuiet (full_step leg frame now).signal
+full_signal leg frame now is =
+    let message = message_of frame.head in
+    by_tests (is_some (refusal leg frame)) (is_unaddressed leg frame) (nothing_sent leg) (numbered_step leg frame message now)
+    (message_step message leg frame now) (inl refl) (bare_signal message leg frame now is)
+    (vnak_signal message leg frame now is)
+
+quiet : (first accepted : ℕ) (name : LegName) (signal : Option Signal) → IsQuiet signal
     → signals_put (handed_up name (granted first accepted signal).signal) ≤ 0
 quiet first accepted name signal is = grind arith
 
@@ -179,7 +206,7 @@ vnak_brings first peer frame now is = go (delivery peer frame now)
     go (Reaches named) = omega (
       arith,
       quiet first peer.accounts.accepted named.name (full_step named.leg frame now).signal
-          (vnak_signal (message_of frame.head) named.leg frame now is),
+          (full_signal named.leg frame now is),
     )
     go to = omega arith
 
@@ -207,17 +234,20 @@ put_together : (one other : List (LegName × Signal)) → signals_put (one ++ ot
 put_together [] other = omega arith
 put_together (up ∷ one) other = omega (arith, put_together one other)
 
-entries_bring : (first : ℕ) (legs : PeerLegs) (timed : Bool) (at accepted : ℕ) (entries : List (ℕ × Option ℕ × List ℕ))
-    → signals_put (entries_media first legs timed at accepted entries).signals ≤ length entries
-entries_bring first legs timed at accepted [] = omega arith
-entries_bring first legs timed at accepted (entry ∷ entries) =
-    let now : MediaTaken = taken_at first accepted (leg_of_remote legs entry.0) (entry_span timed at entry) in
-    let later : MediaTaken = entries_media first legs timed (entry_span timed at entry).end (accepted + now.octets) entries in
+entries_bring : (first : ℕ) (legs : PeerLegs) (limited : Bool) (taken : List ℕ) (timed : Bool) (at accepted : ℕ)
+    (entries : List (ℕ × Option ℕ × List ℕ))
+    → signals_put (entries_media first legs limited taken timed at accepted entries).signals ≤ length entries
+entries_bring first legs limited taken timed at accepted [] = omega arith
+entries_bring first legs limited taken timed at accepted (entry ∷ entries) =
+    let span = entry_span timed at entry in
+    let leg = taker limited taken (leg_of_remote legs entry.0) in
+    let now : MediaTaken = taken_at first accepted leg span in
+    let later : MediaTaken = entries_media first legs limited (taken_by taken leg) timed span.end (accepted + now.octets) entries in
     omega (
       arith,
       put_together now.signals later.signals,
-      media_brings first accepted (leg_of_remote legs entry.0) (entry_span timed at entry),
-      entries_bring first legs timed (entry_span timed at entry).end (accepted + now.octets) entries,
+      media_brings first accepted leg span,
+      entries_bring first legs limited (taken_by taken leg) timed span.end (accepted + now.octets) entries,
     )
 
 pub trunk_brings : (first : ℕ) (peer : PeerView) (frame : TrunkFrame) (now : ℕ)
@@ -225,6 +255,7 @@ pub trunk_brings : (first : ℕ) (peer : PeerView) (frame : TrunkFrame) (now : �
 trunk_brings first peer frame now =
     omega (
       arith,
-      entries_bring first peer.legs (is_timed frame.command_data) 8 peer.accounts.accepted (map entry_item frame.entries),
+      entries_bring first peer.legs peer.rules.is_hardened [] (is_timed frame.command_data) 8 peer.accounts.accepted
+          (map entry_item frame.entries),
       length-map frame.entries entry_item,
     )

@@ -5,7 +5,7 @@ use Rattle.call_book.specs.declared.errors.ReserveError.TheVariants as reserve_e
 use Rattle.call_book.specs.declared.leg_name.LegName.{LegName}
 use Rattle.call_signals.specs.declared.cause.Cause.{Cause}
 use Rattle.call_signals.specs.declared.cause.Cause.TheVariants.{UnallocatedNumber, NormalClearing, CallRejected}
-use Rattle.call_signals.specs.declared.cause.Cause.TheVariants.{NoChannelAvailable}
+use Rattle.call_signals.specs.declared.cause.Cause.TheVariants.{NoChannelAvailable, Other}
 use Rattle.call_signals.specs.declared.format.Format.{Format}
 use Rattle.call_signals.specs.declared.signal.Signal.{Signal}
 use Rattle.call_signals.specs.declared.signal.Signal.TheVariants as signals
@@ -162,6 +162,7 @@ after_open_in reply name rest = at (places.GiveBack name) rest
 
 abbrev pub after_route : Reply → LegName → Rest → Work
 after_route (replies.Route routes.WithoutFormat) offered rest = at (places.Rejecting offered CallRejected) rest
+after_route (replies.Route routes.BadNumber) offered rest = at (places.Rejecting offered (Other 28)) rest
 after_route (replies.Route (routes.To peer format)) offered rest = at (places.ReserveOut offered peer format) rest
 after_route reply offered rest = at (places.Rejecting offered UnallocatedNumber) rest
 

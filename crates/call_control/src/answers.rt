@@ -100,6 +100,10 @@ impl Work {
             Reply::Route(Route::WithoutFormat) => {
                 self.go_to(Place::Rejecting(offered, Cause::CallRejected))
             }
+            // The cause of Q.850 is "invalid number format".
+            Reply::Route(Route::BadNumber) => {
+                self.go_to(Place::Rejecting(offered, Cause::Other(28)))
+            }
             _ => self.go_to(Place::Rejecting(offered, Cause::UnallocatedNumber)),
         }
     }

@@ -8,6 +8,8 @@ use leg_machine::{Command, Format, MediaSpan};
 pub enum Route {
     /// No route leads to the called number.
     Nowhere,
+    /// The called number has octets that no number has.
+    BadNumber,
     /// The peer has no format of the call.
     WithoutFormat,
     /// This peer, in this format.

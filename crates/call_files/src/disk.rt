@@ -9,8 +9,11 @@ pub trait Disk {
     /// Opens the file of a name for reading and appending. If there is none, it is made with the mode 0640.
     fn open(&self, path: &str) -> io::Result<File>;
 
-    /// Returns the system's metadata of the file of a name.
+    /// Returns the system's metadata of the file to which a name leads.
     fn metadata(&self, path: &str) -> io::Result<Metadata>;
+
+    /// Returns the system's metadata of the file of a name itself: of the link, if it is one.
+    fn named(&self, path: &str) -> io::Result<Metadata>;
 }
 
 impl<R: Files<File = File>> Disk for R {
@@ -25,5 +28,9 @@ impl<R: Files<File = File>> Disk for R {
 
     fn metadata(&self, path: &str) -> io::Result<Metadata> {
         fs::metadata(self, path)
+    }
+
+    fn named(&self, path: &str) -> io::Result<Metadata> {
+        fs::symlink_metadata(self, path)
     }
 }

@@ -7,8 +7,11 @@ use std::fs::{File, Metadata};
 use std::io;
 use std::io::{ErrorKind, Write};
 use std::os::fd::AsRawFd;
-use std::os::unix::fs::{FileExt, MetadataExt};
-use system_limits::{ABOVE_LIMIT, file_size_limit, is_writable, octets_below};
+use std::os::unix::fs::FileExt;
+use system_limits::{
+    ABOVE_LIMIT, file_size_limit, is_same_file, is_writable, octets_below, refuse_exchanged,
+    refuse_link,
+};
 
 // The number of times that a write is repeated after a signal interrupted it.
 const TRIES: u32 = 16;
@@ -51,11 +54,6 @@ fn beginning_of(file: &File, metadata: &Metadata) -> io::Result<Beginning> {
     })
 }
 
-// Returns whether two names, or files, lead to the same file.
-fn is_same(one: &Metadata, other: &Metadata) -> bool {
-    one.dev() == other.dev() && one.ino() == other.ino()
-}
-
 // Writes as many of these octets as the system takes.
 fn write(file: &mut File, octets: &[u8]) -> io::Result<usize>
     ensures { IfOk result (λ count. count ≤ length octets.now) }
@@ -81,11 +79,30 @@ impl<'a, D: Disk> DiskFile<'a, D> {
         }
     }
 
-    // Opens the file that the name leads to.
-    fn open_named(&mut self) -> io::Result<Beginning> {
-        self.file = None;
+    // Refuses a link that neither this user nor root owns.
+    fn refuse_link(&self) -> io::Result<()> {
+        match self.disk.named(self.path) {
+            Ok(named) => refuse_link(&named),
+            // Without a file one is made.
+            Err(_) => Ok(()),
+        }
+    }
+
+    // Opens the file that the name leads to. The name is checked before and after that, because another user may exchange
+    // it meanwhile.
+    fn open_checked(&self) -> io::Result<(File, Metadata)> {
+        self.refuse_link()?;
         let file = self.disk.open(self.path)?;
         let metadata = file.metadata()?;
+        self.refuse_link()?;
+        refuse_exchanged(&metadata, &self.disk.metadata(self.path)?)?;
+        Ok((file, metadata))
+    }
+
+    // Opens the file that the name leads to, and reads the state of its content.
+    fn open_named(&mut self) -> io::Result<Beginning> {
+        self.file = None;
+        let (file, metadata) = self.open_checked()?;
         let beginning = beginning_of(&file, &metadata)?;
         self.is_regular = metadata.is_file();
         self.file = Some(file);
@@ -129,7 +146,7 @@ impl<'a, D: Disk> RowFile for DiskFile<'a, D> {
             return Whereabouts::Elsewhere;
         };
         match file.metadata() {
-            Ok(opened) if is_same(&named, &opened) => {
+            Ok(opened) if is_same_file(&named, &opened) => {
                 if named.is_file() && named.len() == 0 {
                     Whereabouts::Emptied
                 } else {

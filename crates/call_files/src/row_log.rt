@@ -1,5 +1,5 @@
 //! Rows that wait for a file, and are written to it one after the other.
-ghost use Rattle.std.specs.Prelude.{◌≡◌, ◌+◌, ◌<◌, ◌↔◌, ◌++◌, None, IsTrue, OnOk, OnErr, ℕ, List, is_some, length};
+ghost use Rattle.std.specs.Prelude.{◌≡◌, ◌+◌, ◌<◌, ◌≤◌, ◌↔◌, ◌++◌, None, IsTrue, OnOk, OnErr, ℕ, List, is_some, length};
 ghost use Rattle.call_records.specs.Backlog.{with_row};
 ghost use Rattle.call_files.specs.Logs.{IsBegun, IsUnopened, IsWritten, IsMoved, row_count};
 
@@ -117,13 +117,14 @@ impl<F: RowFile + Drop, T: Drop> RowLog<F, T> {
         true
     }
 
-    // Writes the waiting rows to a file that is ready, as far as it takes them. Returns the number of rows written to their
-    // ends.
-    fn write_all<S: Spelling<T>>(&mut self, spelling: &S, now: u64) -> u64
-        ensures { IsWritten (S.is_line spelling.now) self.old result self.new }
+    // Writes the waiting rows to a file that is ready, as far as it takes them, at most this many. Returns the number of rows
+    // written to their ends.
+    fn write_all<S: Spelling<T>>(&mut self, spelling: &S, most: u64, now: u64) -> u64
+        ensures written { IsWritten (S.is_line spelling.now) self.old result self.new }
+        ensures most { result ≤ most }
     {
         let mut count = 0;
-        for _ in 0..u64::MAX {
+        for _ in 0..most {
             let Ok(is_row) = self.appender.go_on(now) else {
                 break;
             };
@@ -137,31 +138,29 @@ impl<F: RowFile + Drop, T: Drop> RowLog<F, T> {
         count
     }
 
-    /// Writes the waiting rows as far as the file takes them, at `now`, in milliseconds. Returns the number of rows written
-    /// to their ends. Called every tenth of a second, it syncs written rows to the disk within a second.
-    pub fn write<S: Spelling<T>>(&mut self, spelling: &S, now: u64) -> u64
+    /// Writes the waiting rows as far as the file takes them, at most `most`, at `now`, in milliseconds. A slow file holds its
+    /// caller up for no longer than these take. Returns the number of rows written to their ends; if it is `most`, more may
+    /// wait for the next call. Called every tenth of a second, it syncs written rows to the disk within a second.
+    pub fn write<S: Spelling<T>>(&mut self, spelling: &S, most: u64, now: u64) -> u64
         // The oldest rows are written as their lines, in order.
         ensures lines { IsMoved (S.is_line spelling.now) self.old result self.new }
         // No row is lost: each was written, or still waits.
         ensures count { result + row_count self.new ≡ row_count self.old }
+        ensures most { result ≤ most }
     {
         let mut count = 0;
         let is_wanted = self.appender.has_row() || !self.waiting.is_empty();
         if self.appender.is_ready(now, is_wanted) {
-            count = self.write_all(spelling, now);
+            count = self.write_all(spelling, most, now);
         }
         self.appender.sync_in_time(now);
         count
     }
 
-    /// Writes the waiting rows as `write` does, and returns the number written to their ends. Then it syncs them to the
-    /// disk, as far as the system allows.
-    pub fn end<S: Spelling<T>>(&mut self, spelling: &S, now: u64) -> u64
-        ensures lines { IsMoved (S.is_line spelling.now) self.old result self.new }
-        ensures count { result + row_count self.new ≡ row_count self.old }
+    /// Syncs the written rows to the disk at `now`, in milliseconds, as far as the system allows.
+    pub fn end(&mut self, now: u64)
+        ensures { self.new ≡ self.old }
     {
-        let count = self.write(spelling, now);
         self.appender.end(now);
-        count
     }
 }

@@ -27,6 +27,9 @@ const ROUND_MS: u64 = 100;
 // The time for which rows that wait at the end are tried again, in milliseconds.
 const END_MS: u64 = 5000;
 
+// The greatest number of rows that are written before the clock is read again.
+const ROWS: u64 = 16;
+
 /// The writer's part: the other ends of the outlets, the serials of calls, and room for the rows that wait.
 pub struct CallRows {
     alloc: Global,
@@ -184,21 +187,21 @@ impl<'a, D: Disk> Writer<'a, D> {
         }
     }
 
-    // Writes the rows that wait, and reports the file's state. At the end it also syncs the file, as far as the system
-    // allows.
-    fn write(&mut self, outlets: &CallOutlets, spelling: &RowSpelling<'_>, now: u64, is_end: bool)
+    // Writes rows that wait, at most this many. Returns whether more may be written at once.
+    fn write(&mut self, spelling: &RowSpelling<'_>, most: u64, now: u64) -> bool
         ensures lines { (count : ℕ)
             × IsMoved (IsRowLine spelling.now.plan.now) self.old.ledger.log count self.new.ledger.log
             × (self.new.written ≡ (self.old.written + count) % 2 ^ 64) }
         ensures calls { self.new.ledger.calls ≡ self.old.ledger.calls }
     {
-        let log = &mut self.ledger.log;
-        let count = if is_end {
-            log.end(spelling, now)
-        } else {
-            log.write(spelling, now)
-        };
+        let count = self.ledger.log.write(spelling, most, now);
         self.written = self.written.wrapping_add(count);
+        count == most
+    }
+
+    // Reports the file's state.
+    fn tell(&self, outlets: &CallOutlets) {
+        let log = &self.ledger.log;
         outlets.tell(FileState {
             written: self.written,
             waiting: 0,
@@ -213,7 +216,7 @@ impl<'a, D: Disk> Writer<'a, D> {
     }
 
     // Appends the rows that are handed over, until the outlets have ended and no row waits, or for five seconds after that
-    // end.
+    // end. The clock is read after every few rows, and at the end after each, because a file may be slow.
     fn write_rounds<R: Clock + Wait>(
         &mut self,
         rt: &R,
@@ -229,15 +232,24 @@ impl<'a, D: Disk> Writer<'a, D> {
             let are_over = outlets.are_over();
             now = moment(rt, opened, now);
             self.take_all(rt, spelling.alloc, outlets, are_over);
-            self.write(outlets, spelling, now, are_over);
             if are_over {
                 until = until.min(now.saturating_add(END_MS));
-                if self.is_done() || now >= until {
-                    break;
-                }
             }
-            thread::sleep(rt, Duration::from_millis(ROUND_MS));
+            if now >= until {
+                break;
+            }
+            let most = if are_over { 1 } else { ROWS };
+            let has_more = self.write(spelling, most, now);
+            self.tell(outlets);
+            if are_over && self.is_done() {
+                break;
+            }
+            if !has_more {
+                thread::sleep(rt, Duration::from_millis(ROUND_MS));
+            }
         }
+        self.ledger.log.end(now);
+        self.tell(outlets);
     }
 }
 

@@ -16,12 +16,12 @@ bill_between answered over = None
 abbrev pub bill_ms : Moments → Option ℕ
 bill_ms moments = bill_between moments.answered moments.over
 
--- The exchange rejects a call after its NEW was accepted, with a cause of Q.850. No route leads to the number, the called
--- peer has no free number, or it has none of the formats.
+-- The exchange rejects a call after its NEW was accepted, with a cause of Q.850. No route leads to the number, it has
+-- octets that no number has, the called peer has no free number, or it has none of the formats.
 abbrev pub routing_reason : Option ℕ → List ℕ
 routing_reason None = []
 routing_reason (Some cause) =
-    if cause == 1 then codes "no_route" else if cause == 34 then codes "no_number"
+    if cause == 1 then codes "no_route" else if cause == 28 then codes "bad_number" else if cause == 34 then codes "no_number"
     else if cause == 21 then codes "no_common_format" else []
 
 -- It rejects a call whose NEW it didn't accept: the answer to its challenge was wrong, or the NEW had no format of the

@@ -12,6 +12,7 @@ fn routing_reason(cause: Option<u8>) -> &'static str
 {
     match cause {
         Some(1) => "no_route",
+        Some(28) => "bad_number",
         Some(34) => "no_number",
         Some(21) => "no_common_format",
         _ => "",
@@ -26,7 +27,7 @@ fn is_unanswered(row: &CallRow) -> bool
 }
 
 /// Returns the reason why the call of a leg wasn't answered: `wrong_secret`, `no_secret`, `no_common_format`, `no_route`,
-/// `no_number`, `rejected_by_peer`, or the name of the leg's failure. Empty if it was answered, or given up by its caller.
+/// `bad_number`, `no_number`, `rejected_by_peer`, or the name of the leg's failure. Empty if it was answered, or given up by its caller.
 pub fn reason_name(row: &CallRow) -> &'static str
     ensures { result.now ≡ reasons.reason_text row.now }
 {

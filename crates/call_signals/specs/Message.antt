@@ -101,6 +101,14 @@ abbrev pub is_vnak : Message → Bool
 is_vnak Vnak = true
 is_vnak _ = false
 
+-- it accepts, challenges, rejects or ends a call: an answer to a NEW ("Call Setup")
+abbrev pub answers_new : Message → Bool
+answers_new Accept = true
+answers_new AuthReq = true
+answers_new Reject = true
+answers_new Hangup = true
+answers_new _ = false
+
 abbrev pub is_voice_in : Format → Message → Bool
 is_voice_in format (Voice voice) = same_format voice format
 is_voice_in format _ = false

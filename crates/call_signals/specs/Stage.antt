@@ -14,6 +14,9 @@ is_stage Closing Closing = true
 is_stage Ended Ended = true
 is_stage _ _ = false
 
+abbrev pub is_waiting : Stage → Bool
+is_waiting stage = is_stage Waiting stage
+
 abbrev pub is_offered : Stage → Bool
 is_offered stage = is_stage Offered stage
 

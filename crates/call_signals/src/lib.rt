@@ -37,6 +37,6 @@ pub use openings::Opening;
 pub use order::{Command, Order, OrderError, order_of};
 pub use outcomes::{Heard, Judged, MediaIn, Outcome, StepError, TickOutcome};
 pub use reply::{Replies, ReplyFrame};
-pub use rules::{Credential, PeerRules};
+pub use rules::{Credential, PeerRules, are_printable};
 pub use signal::{Digit, ElementText, Indication, MediaSpan, Onward, Signal};
 pub use stage::Stage;

@@ -171,6 +171,16 @@ impl Message {
         matches!(self, Message::Vnak)
     }
 
+    /// Returns whether it is an ACCEPT, AUTHREQ, REJECT or HANGUP, which answer a NEW ("Call Setup").
+    pub fn answers_new(&self) -> bool
+        ensures { result ≡ meaning.answers_new self.now }
+    {
+        matches!(
+            self,
+            Message::Accept | Message::AuthReq | Message::Reject | Message::Hangup
+        )
+    }
+
     /// Returns whether it is voice in this format.
     pub fn is_voice_in(&self, format: Format) -> bool
         ensures { result ≡ meaning.is_voice_in format self.now }

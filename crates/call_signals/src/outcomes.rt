@@ -57,6 +57,10 @@ pub enum MediaIn {
 pub enum StepError {
     /// The record has no room for one more full frame and its answer.
     RecordFull,
+    /// A frame of destination 0 for a hardened leg whose peer knows its number, and no repeat of a numbered one.
+    Unaddressed,
+    /// An ACCEPT, AUTHREQ, REJECT or HANGUP for a hardened leg whose NEW isn't acknowledged.
+    NewUnacknowledged,
     /// A request for memory was refused.
     Memory,
 }

@@ -59,7 +59,8 @@ impl Credential {
     }
 }
 
-fn are_printable(octets: &[u8]) -> bool
+/// Returns whether all octets are printable ASCII, 0x20 ..= 0x7e.
+pub fn are_printable(octets: &[u8]) -> bool
     ensures { result ≡ list_all is_printable octets.now }
 {
     octets.iter().all(|octet| *octet >= 0x20 && *octet <= 0x7e)
@@ -110,6 +111,9 @@ pub struct PeerRules {
     pub poke: bool,
     /// How often the peer is asked by POKE whether it is there: 0 ..= 600,000 milliseconds, where 0 is never.
     pub qualify_ms: u64,
+    /// What is added to the moment in the timestamp of a POKE, modulo 2^32. If it is drawn, nobody who can't see the POKE
+    /// knows the timestamp of its PONG. 0 if none is drawn.
+    pub poke_offset: u32,
     /// Whether CALLING NAME, CALLINGPRES, CALLINGTON and CALLINGTNS of an offered call are carried on to its far leg.
     pub carries_caller: bool,
     /// Whether a leg notes the cause of its end for its partner. Otherwise each end is normal clearing.
@@ -165,6 +169,7 @@ impl PeerRules {
             vnak_ms: self.vnak_ms,
             poke: self.poke,
             qualify_ms: self.qualify_ms,
+            poke_offset: self.poke_offset,
             carries_caller: self.carries_caller,
             carries_cause: self.carries_cause,
             routes_format: self.routes_format,

@@ -36,6 +36,13 @@ impl Stage {
         matches!(self, Stage::Linked | Stage::Up)
     }
 
+    /// Returns whether the stage is `Waiting`.
+    pub fn is_waiting(self) -> bool
+        ensures { result ≡ stages.is_waiting self }
+    {
+        matches!(self, Stage::Waiting)
+    }
+
     /// Returns whether the stage is `Offered`.
     pub fn is_offered(self) -> bool
         ensures { result ≡ stages.is_offered self }

@@ -1,7 +1,9 @@
 pub mod Operation
+pub mod Urgency
 pub mod Digits
 pub mod Members
 pub mod Placing
 pub mod Requests
 pub mod Response
 pub mod Rows
+pub mod Tables

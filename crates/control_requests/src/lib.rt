@@ -10,6 +10,7 @@ mod placing;
 mod request;
 mod response;
 mod tables;
+mod urgency;
 mod views;
 
 pub use operation::{Methods, Operation, OperationError, operation_of};
@@ -17,4 +18,5 @@ pub use placing::{PlaceFault, PlaceOrder, place_of};
 pub use request::{BODY_LIMIT, FIELD_LIMIT, HEAD_LIMIT, Reading, Request, read_request};
 pub use response::{Response, StatusCode};
 pub use tables::{TableFault, accounts_table, calls_table, peers_table};
+pub use urgency::{Urgency, urgency_of};
 pub use views::{AccountsRow, CallEntry, PeerRow, Rows, accounts_body, call_body};

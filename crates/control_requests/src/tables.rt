@@ -1,8 +1,11 @@
 //! Answers as tables for people.
-ghost use Rattle.std.specs.Prelude.{◌≡◌};
+ghost use Rattle.std.specs.Prelude.{◌≡◌, ◌++◌, IfOk, OnOk, string_bytes};
+ghost use Rattle.std.specs.List.{flat_map};
+ghost use Rattle.std.specs.Str.Lossy.{utf8_lossy};
+ghost use Rattle.control_requests.specs.Tables.{word_octet, word_text};
 ghost use Rattle.control_requests.specs.declared.tables.TableFault.TheVariants as faults;
 
-use plain_text::printable;
+use plain_text::push_printable;
 use serde_json::Value;
 use std::alloc::{AllocError, Global};
 use std::slice;
@@ -84,16 +87,57 @@ const ACCOUNTS: Kind = Kind {
     columns: &["accepted", "packed", "queued", "dropped", "quelched"],
 };
 
-// Returns a row's value in a column: a string in printable characters, a number, or `-` if there is none. Without a row it
-// returns the head line's cell, the column's name.
+// Adds an octet of a word: a space as `\x20`.
+fn push_octet(word: &mut Vec<u8>, octet: u8) -> Result<(), AllocError>
+    ensures { OnOk result (word.new.items ≡ word.old.items ++ word_octet octet) }
+{
+    if octet == b' ' {
+        word.extend_from_slice(b"\\x20")
+    } else {
+        push_printable(word, &[octet])
+    }
+}
+
+// Adds the octets of a word.
+fn push_octets(word: &mut Vec<u8>, octets: &[u8]) -> Result<(), AllocError>
+    ensures { OnOk result (word.new.items ≡ word.old.items ++ flat_map word_octet octets.now) }
+{
+    for octet in octets {
+        push_octet(word, *octet)?;
+    }
+    Ok(())
+}
+
+// Adds a value as one word: an empty one as `""`.
+fn push_word(word: &mut Vec<u8>, octets: &[u8]) -> Result<(), AllocError>
+    ensures { OnOk result (word.new.items ≡ word.old.items ++ word_text octets.now) }
+{
+    if octets.is_empty() {
+        return word.extend_from_slice(b"\"\"");
+    }
+    push_octets(word, octets)
+}
+
+// Returns a value as one word of printable characters, so that columns can be told apart by their spaces: a space as
+// `\x20`, an empty value as `""`.
+fn word(alloc: Global, value: &str) -> Result<String, AllocError>
+    ensures { IfOk result (λ word. string_bytes word ≡ utf8_lossy (word_text value.now)) }
+{
+    let mut word = Vec::new(alloc);
+    push_word(&mut word, value.as_bytes())?;
+    String::from_utf8_lossy(alloc, word.as_slice())
+}
+
+// Returns a row's value in a column: a string as one word, a number, or `-` if there is none. Without a row it returns the
+// head line's cell, the column's name.
 fn cell(alloc: Global, row: Option<&Value>, column: &str) -> Result<String, AllocError> {
     let Some(row) = row else {
         return String::from_str(alloc, column);
     };
     match row.get(column) {
         None | Some(Value::Null) => String::from_str(alloc, "-"),
-        Some(Value::String(text)) => printable(alloc, text.as_bytes()),
-        Some(value) => printable(alloc, value.to_string(alloc)?.as_bytes()),
+        Some(Value::String(text)) => word(alloc, text),
+        Some(value) => word(alloc, &value.to_string(alloc)?),
     }
 }
 
@@ -212,7 +256,8 @@ fn table_of(alloc: Global, body: &str, kind: &Kind) -> Result<String, TableFault
 }
 
 /// Returns the table of the answer to `GET /peers`: a head line, and a line for each peer. Columns are as wide as their
-/// longest cell, in characters. A missing value is `-`. Octets that aren't printable, and the backslash, are `\xNN`.
+/// longest cell, in characters. A missing value is `-`, an empty one `""`. Octets that aren't printable, the space and the
+/// backslash are `\xNN`.
 ///
 /// Returns `NotJson` if the text is no JSON, and `NoRows` if the JSON has no list `peers`. Returns `Memory` if a request
 /// for memory was refused at any time.
@@ -221,8 +266,8 @@ pub fn peers_table(alloc: Global, body: &str) -> Result<String, TableFault> {
 }
 
 /// Returns the table of the answer to `GET /calls` or `GET /calls/<number>`: a head line, and a line for each call. Columns
-/// are as wide as their longest cell, in characters. A missing value is `-`. Octets that aren't printable, and the
-/// backslash, are `\xNN`.
+/// are as wide as their longest cell, in characters. A missing value is `-`, an empty one `""`. Octets that aren't
+/// printable, the space and the backslash are `\xNN`.
 ///
 /// Returns `NotJson` if the text is no JSON, and `NoRows` if the JSON has no list `calls` and no member `number`. Returns
 /// `Memory` if a request for memory was refused at any time.

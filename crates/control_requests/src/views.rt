@@ -20,7 +20,7 @@ pub struct PeerRow<'a> {
     pub legs: u16,
     /// The number of its local call numbers.
     pub numbers: u16,
-    /// Milliseconds since its last datagram; none if it never sent one.
+    /// Milliseconds since its last sign of life; none if it never gave one.
     pub silent_ms: Option<u64>,
     /// Datagrams received from it, whether accepted or refused.
     pub received: u64,

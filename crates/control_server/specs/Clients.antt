@@ -3,11 +3,17 @@ use Rattle.std.specs.Prelude.{◌≡◌, ◌≤◌, ◌-◌, ◌⊎◌, ℕ, Lis
 use Rattle.std.specs.Prelude.{codes, nat_le, slice_get, slice_set, sum_by, take, vec_len}
 use Rattle.control_requests.specs.Requests.{Reads}
 use Rattle.control_requests.specs.Response.{refusal_text}
+use Rattle.control_requests.specs.Urgency.{urgency_of}
 use Rattle.control_requests.specs.declared.request.Reading.{Reading}
 use Rattle.control_requests.specs.declared.request.Reading.TheVariants.{Whole, Part, HeadTooLarge, BodyTooLarge, Malformed}
+use Rattle.control_requests.specs.declared.request.Request.{Request}
 use Rattle.control_requests.specs.declared.response.StatusCode.TheVariants as status
+use Rattle.control_requests.specs.declared.urgency.Urgency.{Urgency}
+use Rattle.control_requests.specs.declared.urgency.Urgency.TheVariants as urgency
 use Rattle.control_server.specs.declared.client.Client.{Client}
 use Rattle.control_server.specs.declared.client.ClientStage.{ClientStage}
+use Rattle.control_server.specs.declared.doors.Door.{Door}
+use Rattle.control_server.specs.declared.doors.Door.TheVariants.{Control, Metrics}
 use Rattle.control_server.specs.declared.client.ClientStage.TheVariants.{Asking, Answered, Draining, Ended}
 
 -- it is the same connection
@@ -106,6 +112,16 @@ is_whole Malformed = false
 -- the octets are no whole request
 abbrev pub IsNoRequest : List ℕ → Type 0
 IsNoRequest octets = (reading : Reading) × Reads octets reading × (is_whole reading ≡ false)
+
+-- how soon a request at that door is answered
+abbrev pub urgency_at : Door → Request → Urgency
+urgency_at Control request = urgency_of request.method.now request.path.now
+urgency_at Metrics request = urgency.Metrics
+
+-- a client asks, and its whole request is so urgent
+pub record AsksAt (urgency : Urgency) (client : Client) : Type 0 where
+  pub asks : client.stage ≡ Asking
+  pub request : (request : Request) × Reads client.input.items (Whole request) × (urgency ≡ urgency_at client.door request)
 
 -- P relates the client that is found at a place before and after, and all others are as they were
 abbrev pub AtFound : (Client → Client → Type 0) → ℕ → List Client → List Client → Option Client → Type 0

@@ -1,17 +1,17 @@
 //! The clients of a service: they connect to a listener, send a request, and are answered, one after another.
 ghost use Rattle.std.specs.Prelude.{◌≡◌, ◌+◌, ◌-◌, ◌^◌, ◌<◌, ◌≤◌, ◌↔◌, []};
-ghost use Rattle.std.specs.Prelude.{IfNone, IfOk, IfSome, IsErr, IsFalse, IsTrue, filter, min, not, slice_get, sum_by, true, vec_len};
+ghost use Rattle.std.specs.Prelude.{IfNone, IfOk, IfSome, IsErr, IsFalse, IsTrue, filter, min, not, option_map, slice_get, sum_by, true, vec_len};
 ghost use Rattle.std.specs.List.{list_any};
 ghost use Rattle.control_requests.specs.Requests.{Reads};
 ghost use Rattle.control_requests.specs.declared.request.Reading.TheVariants.{Whole, Part};
 ghost use Rattle.control_server.specs.Clients.{WasHeardOut, WasServed, At, SparesOthers, has_ended, is_answered, kept_of};
-ghost use Rattle.control_server.specs.Clients.{IsNoRequest};
+ghost use Rattle.control_server.specs.Clients.{AsksAt, IsNoRequest};
 ghost use Rattle.control_server.specs.Clients as spec;
 ghost use Rattle.control_server.specs.declared.client.ClientStage.TheVariants.{Asking, Answered, Draining, Ended};
 
 use crate::client::{Client, ClientStage, refusal};
 use crate::doors::{Door, Doors, NotBound, Stream};
-use control_requests::{Reading, Request, StatusCode};
+use control_requests::{Reading, Request, StatusCode, Urgency, urgency_of};
 use mio::unix::SourceFd;
 use mio::{Events, Interest, Poll, Token};
 use std::alloc::{AllocError, Global};
@@ -19,6 +19,7 @@ use std::fs::Files;
 use std::io;
 use std::io::ErrorKind;
 use std::net::{Net, SocketAddr};
+use std::random::RandomSource;
 use std::time::Duration;
 
 /// The number of clients of each listener that are served at once.
@@ -36,7 +37,8 @@ const INPUT: Token = Token(2);
 /// The listeners and their clients. Moments are in milliseconds.
 ///
 /// `bind` and `await_end_of_input` choose the events to wait for. Then come rounds: `wait`, `takes_end_of_input`, `admit`;
-/// for each place below `count` `hear`, then `answer` if `request` returns a request, and `speak`; at last `close_ended`.
+/// for each place below `count` `hear`, then `answer` if `request` returns a request, in the order of `urgency`, and
+/// `speak`; at last `close_ended`.
 pub struct Clients {
     alloc: Global,
     poll: Poll,
@@ -87,7 +89,7 @@ impl Clients {
 
     /// Binds the control socket at its path, to which only its owner may connect, and the address of the metrics. Each is
     /// optional. `NotBound` has the name of the refusal: `Control`, `Metrics` or `Memory`.
-    pub fn bind<R: Files + Net>(
+    pub fn bind<R: Files + Net + RandomSource>(
         &mut self,
         rt: &R,
         control: Option<&str>,
@@ -164,6 +166,14 @@ impl Clients {
         let control = self.admit_all(Door::Control, now);
         let metrics = self.admit_all(Door::Metrics, now);
         self.may_have_more = control || metrics;
+    }
+
+    /// Accepts the connections that wait at the control socket, as `admit` does. Other clients of it get new places.
+    pub fn admit_control(&mut self, now: u64)
+        ensures { SparesOthers now self.old.clients.items self.new.clients.items }
+    {
+        let control = self.admit_all(Door::Control, now);
+        self.may_have_more = self.may_have_more || control;
     }
 
     // Accepts the connections that wait. Returns whether more may wait.
@@ -251,11 +261,21 @@ impl Clients {
         }
     }
 
-    /// Returns the number of clients. Each keeps its place below that until `admit` or `close_ended`.
+    /// Returns the number of clients. Each keeps its place below that until `admit`, `admit_control` or `close_ended`.
     pub fn count(&self) -> usize
         ensures { result ≡ vec_len self.now.clients }
     {
         self.clients.len()
+    }
+
+    /// Returns the listener of the client at a place.
+    pub fn door(&self, place: usize) -> Option<Door>
+        ensures { result ≡ option_map (λ client. client.door) (slice_get self.now.clients.items place) }
+    {
+        match self.clients.get(place) {
+            Some(client) => Some(client.door),
+            None => None,
+        }
     }
 
     /// Reads the available input of the client at a place. Input that isn't a valid request is answered here with the
@@ -288,6 +308,21 @@ impl Clients {
         match client.reading() {
             Reading::Whole(request) => Some((client.door, request)),
             _ => None,
+        }
+    }
+
+    /// Returns how soon the client at a place is answered, if its request is complete and not answered.
+    pub fn urgency(&self, place: usize) -> Option<Urgency>
+        ensures asks { IfSome result (λ urgency.
+            IfSome (slice_get self.now.clients.items place) (λ client. AsksAt urgency client)) }
+        ensures there { IfSome result (λ urgency. place < vec_len self.now.clients) }
+        ensures none { IfNone result (IfSome (slice_get self.now.clients.items place) (λ client.
+            client.stage ≡ Asking → IsNoRequest client.input.items)) }
+    {
+        let (door, request) = self.request(place)?;
+        match door {
+            Door::Control => Some(urgency_of(request.method, request.path)),
+            Door::Metrics => Some(Urgency::Metrics),
         }
     }
 

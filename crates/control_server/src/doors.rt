@@ -11,6 +11,7 @@ use std::fs::Files;
 use std::io;
 use std::io::{ErrorKind, Read, Write};
 use std::net::{Net, Shutdown, SocketAddr};
+use std::random::RandomSource;
 
 /// The listener of a client.
 #[derive(Clone, Copy)]
@@ -115,7 +116,7 @@ impl Doors {
     }
 
     /// Binds the control socket at its path, if one is wanted.
-    pub fn bind_control<R: Files + Net>(
+    pub fn bind_control<R: Files + Net + RandomSource>(
         &mut self,
         rt: &R,
         alloc: Global,

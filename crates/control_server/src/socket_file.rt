@@ -9,13 +9,24 @@ use std::os::fd::{AsFd, AsRawFd};
 use std::os::unix::fs::{DirBuilderExt, FileTypeExt, MetadataExt};
 use std::os::unix::net;
 use std::os::unix::net::SocketAddr;
+use std::random::RandomSource;
 use std::{fs, io};
 
 // The number of clients that may wait to be accepted: the system's greatest.
 const BACKLOG: i32 = -1;
 
-// The number of names that are tried for the folder.
+// The number of names that are drawn for the folder until one is free.
 const NAMES: u32 = 100;
+
+// The characters of these names.
+const LETTERS: &[u8; 64] = b"ABCDEFGHIJKLMNOPQRSTUVWXYZabcdefghijklmnopqrstuvwxyz0123456789-_";
+
+// The system's numbers of the errors "Permission denied", "File exists" and "Address already in use".
+const DENIED: i32 = 13;
+
+const EXISTS: i32 = 17;
+
+const IN_USE: i32 = 98;
 
 // The mode of the file: only the owner may connect.
 const MODE: u32 = 0o600;
@@ -35,20 +46,46 @@ fn folder_of(path: &str) -> &str {
     }
 }
 
-// Makes a private folder next to the path. Its name is short, so that a path may have the greatest length that the system
-// takes.
-fn private_folder<R: Files>(rt: &R, alloc: Global, path: &str) -> io::Result<String> {
+// Returns the character of a name that an octet stands for: each of them for four octets.
+fn letter(octet: u8) -> char {
+    char::from(LETTERS[usize::from(octet % 64)])
+}
+
+// Draws a name for a folder next to the path: a dot and four characters. It is short, so that only the socket's own name
+// and few folders make a path too long.
+fn drawn_folder<R: RandomSource>(rt: &R, alloc: Global, path: &str) -> io::Result<String> {
+    let mut octets = [0u8; 4];
+    rt.fill_bytes(&mut octets)?;
+    let [a, b, c, d] = octets;
+    let folder = folder_of(path);
+    let name = format!(in alloc;
+        "{folder}.{}{}{}{}",
+        letter(a),
+        letter(b),
+        letter(c),
+        letter(d)
+    )?;
+    Ok(name)
+}
+
+// Makes a private folder next to the path. Nobody knows its name before it is there, so folders that are made beforehand
+// can't take all of its names.
+fn private_folder<R: Files + RandomSource>(
+    rt: &R,
+    alloc: Global,
+    path: &str,
+) -> io::Result<String> {
     let mut builder = DirBuilder::new();
     builder.mode(0o700);
-    for place in 0..NAMES {
-        let folder = format!(in alloc; "{}.{place}", folder_of(path))?;
+    for _ in 0..NAMES {
+        let folder = drawn_folder(rt, alloc, path)?;
         match builder.create(rt, folder.as_str()) {
             Ok(()) => return Ok(folder),
             Err(error) if error.kind() == ErrorKind::AlreadyExists => {}
             Err(error) => return Err(error),
         }
     }
-    Err(io::Error::from(ErrorKind::AlreadyExists))
+    Err(io::Error::from_raw_os_error(EXISTS))
 }
 
 // Returns whether a path leads to the socket of a process that has ended, or `NotFound` if it leads nowhere.
@@ -90,7 +127,7 @@ fn make_room<R: Files + Net>(rt: &R, alloc: Global, folder: &str, path: &str) ->
 
 // Returns "Address already in use": another process answers at the path, or the file there is no socket.
 fn in_use() -> io::Error {
-    io::Error::from_raw_os_error(98)
+    io::Error::from_raw_os_error(IN_USE)
 }
 
 // Returns the error of the last failed system call.
@@ -118,7 +155,7 @@ fn listener_at<R: Files + Net>(rt: &R, path: &str) -> io::Result<UnixListener> {
 fn put_at<R: Files>(rt: &R, bound: &str, path: &str) -> io::Result<SocketFile> {
     let found = fs::symlink_metadata(rt, bound)?;
     if found.mode() & 0o777 != MODE {
-        return Err(io::Error::from(ErrorKind::PermissionDenied));
+        return Err(io::Error::from_raw_os_error(DENIED));
     }
     match fs::hard_link(rt, bound, path) {
         Ok(()) => Ok(SocketFile {
@@ -152,9 +189,9 @@ fn bind_in<R: Files + Net>(
 /// replaced; nothing else is removed, even if the path changes meanwhile.
 ///
 /// Returns "Address already in use" if another process answers there, or if the path has a file, a folder, a link or a
-/// pipe. Other errors are the system's: a path of 108 octets or more, a folder that isn't there, or a file system without
-/// hard links.
-pub(crate) fn bind<R: Files + Net>(
+/// pipe. Other errors are the system's: a path of 108 octets or more, a folder that has more than 100 octets with its slash or
+/// isn't there, or a file system without hard links.
+pub(crate) fn bind<R: Files + Net + RandomSource>(
     rt: &R,
     alloc: Global,
     path: &str,

@@ -95,10 +95,11 @@ fn is_order_of(numbers: &[u16], range: NumberRange) -> bool {
     true
 }
 
-// Returns a full frame from call number 1 that says that the sender has no call of this number ("INVAL").
-fn inval(number: u16) -> [u8; 12] {
+// Returns a full frame from call number 1 that acknowledges the NEW of the leg of this number, and rejects its call
+// ("REJECT").
+fn reject(number: u16) -> [u8; 12] {
     let [high, low] = number.to_be_bytes();
-    [0x80, 1, high, low, 0, 0, 0, 0, 0, 0, 6, 0x0a]
+    [0x80, 1, high, low, 0, 0, 0, 0, 0, 1, 6, 6]
 }
 
 // Opens a call for each free number of the peer, and then ends the calls in this order.
@@ -122,7 +123,7 @@ fn take_and_free<J: LedgerSet, R: Wait>(
     }
     let from = exchange.plan().endpoint(peer);
     for number in numbers {
-        let octets = inval(*number);
+        let octets = reject(*number);
         let _freed = exchange.datagram(rt, pass, from, &octets, now, challenge);
     }
     Ok(())

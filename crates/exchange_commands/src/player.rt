@@ -20,6 +20,8 @@ enum Begun {
     Nothing,
     // The prefix of challenges alone.
     Prefix,
+    // Of an offset of timestamps, too.
+    Offset,
     // Of a key or an order of free numbers, too.
     Opening,
     More,
@@ -31,6 +33,7 @@ impl Begun {
         match (self, line) {
             (Begun::More, _) => Begun::More,
             (_, ScriptLine::Prefix(_)) => Begun::Prefix,
+            (_, ScriptLine::Offset(_)) => Begun::Offset,
             (_, ScriptLine::Key(_) | ScriptLine::Free(_, _)) => Begun::Opening,
             _ => Begun::More,
         }
@@ -71,15 +74,6 @@ fn is_event(line: &ScriptLine<'_>) -> bool {
     }
 }
 
-// Sets whether all peers drain, or none.
-fn drain<J: LedgerSet, R: Wait, V: Viewer>(desk: &mut Desk<'_, R, J, V>, drains: bool) {
-    let exchange = desk.exchange;
-    for place in 0..exchange.plan().peer_count() {
-        let peer = PeerId::new(place);
-        exchange.set_draining(desk.rt, desk.pass, peer, drains);
-    }
-}
-
 impl Player {
     /// Returns a player at the moment 0, in milliseconds, with the challenge `0` and no leg. Returns `None` if memory was
     /// refused.
@@ -103,7 +97,8 @@ impl Player {
     /// - No peer has the name in the line, or a stranger's endpoint is a peer's.
     /// - `at` has an earlier moment, or `back` a later one.
     /// - A challenge, a key, an endpoint, a datagram or a list of numbers is malformed.
-    /// - `prefix` isn't the first line, or `key` has a line other than `prefix` before it.
+    /// - `prefix` isn't the first line, `offset` has a line other than `prefix` before it, or `key` one other than both.
+    /// - The offset doesn't fit 32 bits.
     /// - `serial` has a line other than these and `free` before it, or is less than the serials that these used.
     pub(crate) fn line<J: LedgerSet, R: Wait, V: Viewer>(
         &mut self,
@@ -147,7 +142,7 @@ impl Player {
             ScriptLine::Tick | ScriptLine::TickOf(_) => self.tick(desk, line),
             ScriptLine::Send | ScriptLine::SendTo(_) => self.send(desk, line),
             ScriptLine::Drain(drains) => {
-                drain(desk, *drains);
+                desk.exchange.set_all_draining(desk.rt, desk.pass, *drains);
                 Ok(())
             }
             ScriptLine::Free(peer, numbers) => {
@@ -164,9 +159,15 @@ impl Player {
         matches!(self.begun, Begun::Nothing) && Challenge::new(text).is_some()
     }
 
-    // Returns whether this is a key, and has no line but `prefix` before it.
+    // Returns whether an offset fits 32 bits, and has no line but `prefix` before it.
+    fn may_take_offset(&self, offset: u64) -> bool {
+        matches!(self.begun, Begun::Nothing | Begun::Prefix) && u32::try_from(offset).is_ok()
+    }
+
+    // Returns whether this is a key, and has no line but `prefix` and `offset` before it.
     fn may_take_key(&self, digits: &[u8]) -> bool {
-        matches!(self.begun, Begun::Nothing | Begun::Prefix) && key_of(digits).is_some()
+        matches!(self.begun, Begun::Nothing | Begun::Prefix | Begun::Offset)
+            && key_of(digits).is_some()
     }
 
     // Whether this may be the serial of the next leg: only `free` lines used serials before, and no more of them.
@@ -186,6 +187,9 @@ impl Player {
             },
             // The exchange was opened with it.
             ScriptLine::Prefix(text) if !self.may_take_prefix(text) => return Err(Stop::Script),
+            ScriptLine::Offset(offset) if !self.may_take_offset(*offset) => return Err(
+                Stop::Script,
+            ),
             ScriptLine::Key(digits) if !self.may_take_key(digits) => return Err(Stop::Script),
             ScriptLine::Serial(serial) if !self.may_take_serial(*serial) => return Err(
                 Stop::Script,

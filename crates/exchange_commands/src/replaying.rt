@@ -225,6 +225,9 @@ fn drawn_of(script: &[u8]) -> Drawn {
         match line_of(line) {
             Some(ScriptLine::Nothing) => {}
             Some(ScriptLine::Prefix(text)) => drawn.challenge_prefix = Challenge::new(text),
+            Some(ScriptLine::Offset(offset)) => {
+                drawn.poke_offset = u32::try_from(offset).unwrap_or(0);
+            }
             Some(ScriptLine::Key(digits)) => {
                 let key = key_of(digits).unwrap_or([0; 32]);
                 drawn.token_key = key;
@@ -242,7 +245,12 @@ fn first_serial_of(script: &[u8]) -> u64 {
     let mut used: u64 = 0;
     for line in script.split(|octet| *octet == b'\n') {
         match line_of(line) {
-            Some(ScriptLine::Nothing | ScriptLine::Prefix(_) | ScriptLine::Key(_)) => {}
+            Some(
+                ScriptLine::Nothing
+                | ScriptLine::Prefix(_)
+                | ScriptLine::Offset(_)
+                | ScriptLine::Key(_),
+            ) => {}
             Some(ScriptLine::Free(_, numbers)) => used = used.saturating_add(count_numbers(
                 numbers,
             )),

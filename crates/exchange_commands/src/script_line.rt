@@ -18,9 +18,14 @@ pub enum ScriptLine<'a> {
     Challenge(&'a [u8]),
     /// `prefix <text>`: the prefix of this exchange's challenges. Only empty lines and comments may come before it.
     Prefix(&'a [u8]),
-    /// `key <hex>`: the key of this exchange's call tokens. Only empty lines, comments and `prefix` may come before it.
+    /// `offset <n>`: what is added to the moments in the timestamps of POKEs. Only empty lines, comments and `prefix` may
+    /// come before it.
+    Offset(u64),
+    /// `key <hex>`: the key of this exchange's call tokens. Only empty lines, comments, `prefix` and `offset` may come before
+    /// it.
     Key(&'a [u8]),
-    /// `serial <n>`: the serial of the next leg. Only empty lines, comments, `prefix`, `key` and `free` are before it.
+    /// `serial <n>`: the serial of the next leg. Only empty lines, comments, `prefix`, `offset`, `key` and
+    /// `free` are before it.
     Serial(u64),
     /// `rx <peer> <hex>`: a datagram from a peer.
     Rx(&'a [u8], &'a [u8]),
@@ -85,6 +90,7 @@ enum Command {
     Back,
     Challenge,
     Prefix,
+    Offset,
     Key,
     Serial,
     Rx,
@@ -99,11 +105,12 @@ enum Command {
     Settle,
 }
 
-const COMMANDS: [(&[u8], Command); 16] = [
+const COMMANDS: [(&[u8], Command); 17] = [
     (b"at", Command::At),
     (b"back", Command::Back),
     (b"challenge", Command::Challenge),
     (b"prefix", Command::Prefix),
+    (b"offset", Command::Offset),
     (b"key", Command::Key),
     (b"serial", Command::Serial),
     (b"rx", Command::Rx),
@@ -154,6 +161,7 @@ fn said_by_two<'a>(command: Command, word: &'a [u8]) -> Option<ScriptLine<'a>> {
     match command {
         Command::At => Some(ScriptLine::At(number)),
         Command::Back => Some(ScriptLine::Back(number)),
+        Command::Offset => Some(ScriptLine::Offset(number)),
         Command::Serial => Some(ScriptLine::Serial(number)),
         Command::HangUp => Some(ScriptLine::HangUp(number)),
         _ => None,

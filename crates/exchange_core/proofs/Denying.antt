@@ -47,7 +47,7 @@ unasked_is_none : (call : Call) (offer : Option Offer) (need : Need) (reply : Re
 unasked_is_none call offer (needs.OpenOut name) reply is = sym (ap (λ r. as_steps (is_made r)) is.0)
 unasked_is_none call offer (needs.Order name command) reply is = sym (ap (λ r. as_steps (is_made r)) is.0)
 unasked_is_none call offer (needs.Look peer number) reply is = sym (ap (λ r. as_steps (is_made r)) is.0)
-unasked_is_none call offer (needs.Retire name) reply is = sym (ap (λ r. as_steps (is_made r)) is)
+unasked_is_none call offer (needs.Retire name) reply is = sym (ap (λ r. as_steps (is_made r)) is.0)
 unasked_is_none call offer (needs.Route name) (replies.Route route) is = refl
 unasked_is_none call offer need reply is = absurd is
 
@@ -80,8 +80,8 @@ steps_are call offer need reply (mades.Reserve peer answer) made = sym (ap (λ r
 steps_are call offer need reply (mades.Bridge one other answer) made = sym (ap (λ r. as_steps (is_made r)) made.1)
 steps_are call offer need reply (mades.Partner name answer) made = sym (ap (λ r. as_steps (is_made r)) made.1)
 steps_are call offer need reply (mades.Release name answer) made = sym (ap (λ r. as_steps (is_made r)) made.1)
-steps_are call offer need reply (mades.TakeOut peer out) made = absurd made
 steps_are call offer need reply mades.Unasked made = unasked_is_none call offer need reply made
+steps_are call offer need reply step made = absurd made
 
 -- if a locked state was asked, it is noted as the answer denies the call
 denial_is : (call : Call) (offer : Option Offer) (need : Need) (reply : Reply) (step : Made) → IsMade call offer need reply step
@@ -109,8 +109,8 @@ denial_is call offer need reply (mades.Reserve peer (Err error)) made asked = sy
 denial_is call offer need reply (mades.Bridge one other answer) made asked = sym (ap denial_of made.1)
 denial_is call offer need reply (mades.Partner name answer) made asked = sym (ap denial_of made.1)
 denial_is call offer need reply (mades.Release name answer) made asked = sym (ap denial_of made.1)
-denial_is call offer need reply (mades.TakeOut peer out) made asked = absurd made
 denial_is call offer need reply mades.Unasked made asked = absurd (asked made)
+denial_is call offer need reply step made asked = absurd made
 
 -- ---- strangers
 

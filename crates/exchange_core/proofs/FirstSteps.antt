@@ -2,7 +2,7 @@
 -- refused.
 use Rattle.std.proofs.Common.{◌≡◌, ◌+◌, ◌≤◌, Option, None, Some, Bool, true, false, refl, sym, ap, subst, ◌∙◌}
 use Rattle.std.proofs.Common.{arith}
-use Rattle.std.specs.Prelude.{◌≢◌, Ok, Err, MatchOption, is_some}
+use Rattle.std.specs.Prelude.{Ok, Err, MatchOption, is_some}
 use Rattle.call_book.specs.declared.errors.ReserveError.TheVariants as reserve_errors
 use Rattle.peer_lock.specs.Accounts.{Credit}
 use Rattle.peer_lock.specs.declared.errors.OpenError.TheVariants as open_errors
@@ -15,6 +15,7 @@ use Rattle.call_control.specs.declared.place.Place.TheVariants as places
 use Rattle.call_control.specs.declared.reply.Reply.{Reply}
 use Rattle.call_control.specs.declared.reply.Reply.TheVariants as replies
 use Rattle.exchange_core.specs.Denial.{Denies, denial_of, noted}
+use Rattle.exchange_core.specs.FirstSteps.{FitsOpenOut}
 use Rattle.exchange_core.specs.declared.denial.Denial.{Denial}
 
 -- the laws of a call's first steps
@@ -71,36 +72,37 @@ MayDeny begun denial = MatchOption denial (Unit {0}) (Denies begun)
 
 may_deny : (place : Place) (reply : Reply) (begun : Beginning) → is_answer (next_at place) reply ≡ true
     → beginning_at place ≡ Some begun
-    → reply ≢ replies.OpenOut (Err open_errors.RemoteBusy) → MayDeny (beginning_at place) (denial_of reply)
-may_deny (places.Datagram peer) (replies.Datagram (Ok heard)) begun answers first no_remote = tt
-may_deny (places.Datagram peer) (replies.Datagram (Err peer_errors.NeedsNumber)) begun answers first no_remote = tt
-may_deny (places.Datagram peer) (replies.Datagram (Err error)) begun answers first no_remote = tt
-may_deny (places.ReserveIn peer) (replies.Reserve (Ok name)) begun answers first no_remote = tt
-may_deny (places.ReserveIn peer) (replies.Reserve (Err reserve_errors.SerialsSpent)) begun answers first no_remote = tt
-may_deny (places.ReserveIn peer) (replies.Reserve (Err reserve_errors.NoNumber)) begun answers first no_remote = tt
-may_deny (places.RejectNew peer) (replies.RejectNew (Ok done)) begun answers first no_remote = tt
-may_deny (places.RejectNew peer) (replies.RejectNew (Err reject_errors.Unanswered)) begun answers first no_remote = tt
-may_deny (places.RejectNew peer) (replies.RejectNew (Err reject_errors.StepsSpent)) begun answers first no_remote = tt
-may_deny (places.RejectNew peer) (replies.RejectNew (Err reject_errors.RemoteBusy)) begun answers first no_remote = tt
-may_deny (places.OpenIn name) (replies.OpenIn (Ok heard)) begun answers first no_remote = tt
-may_deny (places.OpenIn name) (replies.OpenIn (Err open_errors.StepsSpent)) begun answers first no_remote = tt
-may_deny (places.OpenIn name) (replies.OpenIn (Err open_errors.NumberBusy)) begun answers first no_remote = tt
-may_deny (places.OpenIn name) (replies.OpenIn (Err open_errors.RemoteBusy)) begun answers first no_remote = tt
-may_deny (places.OpenIn name) (replies.OpenIn (Err open_errors.Memory)) begun answers first no_remote = tt
-may_deny (places.Tick peer) (replies.Tick (Ok quiet)) begun answers first no_remote = tt
-may_deny (places.Tick peer) (replies.Tick (Err spent)) begun answers first no_remote = tt
-may_deny (places.HangUp name) (replies.Order (Ok done)) begun answers first no_remote = tt
-may_deny (places.HangUp name) (replies.Order (Err error)) begun answers first no_remote = tt
-may_deny (places.ReserveCall peer) (replies.Reserve (Ok name)) begun answers first no_remote = tt
-may_deny (places.ReserveCall peer) (replies.Reserve (Err reserve_errors.SerialsSpent)) begun answers first no_remote = tt
-may_deny (places.ReserveCall peer) (replies.Reserve (Err reserve_errors.NoNumber)) begun answers first no_remote = tt
-may_deny (places.OpenCall name) (replies.OpenOut (Ok done)) begun answers first no_remote = tt
-may_deny (places.OpenCall name) (replies.OpenOut (Err open_errors.StepsSpent)) begun answers first no_remote = tt
-may_deny (places.OpenCall name) (replies.OpenOut (Err open_errors.NumberBusy)) begun answers first no_remote = tt
-may_deny (places.OpenCall name) (replies.OpenOut (Err open_errors.Memory)) begun answers first no_remote = tt
-may_deny (places.OpenCall name) (replies.OpenOut (Err open_errors.RemoteBusy)) begun answers first no_remote =
-    absurd (no_remote refl)
-may_deny place reply begun answers first no_remote = absurd (cc)
+    → FitsOpenOut reply → MayDeny (beginning_at place) (denial_of reply)
+may_deny (places.Datagram peer) (replies.Datagram (Ok heard)) begun answers first fits = tt
+may_deny (places.Datagram peer) (replies.Datagram (Err peer_errors.NeedsNumber)) begun answers first fits = tt
+may_deny (places.Datagram peer) (replies.Datagram (Err error)) begun answers first fits = tt
+may_deny (places.ReserveIn peer) (replies.Reserve (Ok name)) begun answers first fits = tt
+may_deny (places.ReserveIn peer) (replies.Reserve (Err reserve_errors.SerialsSpent)) begun answers first fits = tt
+may_deny (places.ReserveIn peer) (replies.Reserve (Err reserve_errors.NoNumber)) begun answers first fits = tt
+may_deny (places.RejectNew peer) (replies.RejectNew (Ok done)) begun answers first fits = tt
+may_deny (places.RejectNew peer) (replies.RejectNew (Err reject_errors.Unanswered)) begun answers first fits = tt
+may_deny (places.RejectNew peer) (replies.RejectNew (Err reject_errors.StepsSpent)) begun answers first fits = tt
+may_deny (places.RejectNew peer) (replies.RejectNew (Err reject_errors.RemoteBusy)) begun answers first fits = tt
+may_deny (places.OpenIn name) (replies.OpenIn (Ok heard)) begun answers first fits = tt
+may_deny (places.OpenIn name) (replies.OpenIn (Err open_errors.StepsSpent)) begun answers first fits = tt
+may_deny (places.OpenIn name) (replies.OpenIn (Err open_errors.NumberBusy)) begun answers first fits = tt
+may_deny (places.OpenIn name) (replies.OpenIn (Err open_errors.Draining)) begun answers first fits = tt
+may_deny (places.OpenIn name) (replies.OpenIn (Err open_errors.RemoteBusy)) begun answers first fits = tt
+may_deny (places.OpenIn name) (replies.OpenIn (Err open_errors.Memory)) begun answers first fits = tt
+may_deny (places.Tick peer) (replies.Tick (Ok quiet)) begun answers first fits = tt
+may_deny (places.Tick peer) (replies.Tick (Err spent)) begun answers first fits = tt
+may_deny (places.HangUp name) (replies.Order (Ok done)) begun answers first fits = tt
+may_deny (places.HangUp name) (replies.Order (Err error)) begun answers first fits = tt
+may_deny (places.ReserveCall peer) (replies.Reserve (Ok name)) begun answers first fits = tt
+may_deny (places.ReserveCall peer) (replies.Reserve (Err reserve_errors.SerialsSpent)) begun answers first fits = tt
+may_deny (places.ReserveCall peer) (replies.Reserve (Err reserve_errors.NoNumber)) begun answers first fits = tt
+may_deny (places.OpenCall name) (replies.OpenOut (Ok done)) begun answers first fits = tt
+may_deny (places.OpenCall name) (replies.OpenOut (Err open_errors.StepsSpent)) begun answers first fits = tt
+may_deny (places.OpenCall name) (replies.OpenOut (Err open_errors.NumberBusy)) begun answers first fits = tt
+may_deny (places.OpenCall name) (replies.OpenOut (Err open_errors.Memory)) begun answers first fits = tt
+may_deny (places.OpenCall name) (replies.OpenOut (Err open_errors.Draining)) begun answers first fits = absurd fits
+may_deny (places.OpenCall name) (replies.OpenOut (Err open_errors.RemoteBusy)) begun answers first fits = absurd fits
+may_deny place reply begun answers first fits = absurd (cc)
 
 -- ---- the progress of a call
 
@@ -138,11 +140,11 @@ pub under_way : MadeIsPast → GoesOn → PastStays → RefusedIsOver → OverSt
     → (start : Place) (first old new : Credit) (work after : Work) (reply : Reply)
     (denial after_denial : Option Denial) → is_answer (next_of work) reply ≡ true
     → (is_made reply ≡ true → new.steps ≡ old.steps + 1) → (is_made reply ≡ false → new ≡ old)
-    → reply ≢ replies.OpenOut (Err open_errors.RemoteBusy) → after ≡ after_told work reply
+    → FitsOpenOut reply → after ≡ after_told work reply
     → after_denial ≡ noted (beginning_at work.place) reply denial
     → IsUnderWay start first old work.place denial → IsUnderWay start first new after.place after_denial
 under_way made_past goes_on past_stays refused_over over_stays over_none start first old new work after reply denial after_denial
-    answers made unmade no_remote told is h =
+    answers made unmade fits told is h =
     rw told (rw is (go (beginning_at work.place) refl))
   where
     -- a step that leads on, that was refused, or that was made
@@ -169,7 +171,7 @@ under_way made_past goes_on past_stays refused_over over_stays over_none start f
           unmade none ∙ (h.before begun began).1,
           over,
           subst (λ b. Denies b why) (began ∙ sym (h.before begun began).0)
-              (subst (λ o. MayDeny (beginning_at work.place) o) denied (may_deny work.place reply begun answers began no_remote)),
+              (subst (λ o. MayDeny (beginning_at work.place) o) denied (may_deny work.place reply begun answers began fits)),
         )
 
     refused : (begun : Beginning) → beginning_at work.place ≡ Some begun → is_made reply ≡ false → (o : Option Denial)

@@ -8,5 +8,6 @@ mod FirstSteps
 mod FirstPeers
 mod Leaving
 mod Denying
+mod Naming
 mod Tracing
 pub mod Sending

@@ -1,28 +1,33 @@
 -- Which datagrams need a number for their leg.
 use Rattle.std.proofs.Common.{◌≡◌, ◌⊎◌, ℕ, Bool, true, false, List, Option, None, Some, Result, Ok, Err, inl, inr, refl, subst}
 use Rattle.std.proofs.Common.{arith, if◌then◌else◌}
-use Rattle.std.specs.Prelude.{◌==◌, ◌&&◌, IfErr}
+use Rattle.std.specs.Prelude.{◌==◌, ◌&&◌, option_map, IfErr}
 use Rattle.std.proofs.lemmas.Bool.Decides.{nat_tests}
 use Rattle.call_control.specs.declared.reply.Reply.TheVariants as replies
 use Rattle.iax_frames.specs.FullFrame.{FullFrame}
 use Rattle.iax_frames.specs.declared.datagram.Datagram.{Datagram}
 use Rattle.iax_frames.specs.declared.full_frame.FullHead.{FullHead}
 use Rattle.iax_frames.specs.declared.datagram.Datagram.TheVariants.{Full, Mini, Video, Trunk}
-use Rattle.leg_machine.specs.Leg.{is_record_full}
 use Rattle.call_signals.specs.declared.rules.PeerRules.{PeerRules}
+use Rattle.call_signals.specs.declared.outcomes.StepError.{StepError}
+use Rattle.call_signals.specs.declared.outcomes.StepError.TheVariants as step_errors
 use Rattle.leg_machine.specs.Message.{message_of, is_numbered}
+use Rattle.leg_machine.specs.Working.{frame_refused}
 use Rattle.peer_lock.specs.Arrivals.{datagram_refused, mini_refused}
-use Rattle.peer_lock.specs.Delivery.{Delivery, Gets, NoCall, Pongs, delivered, delivery_refused, found, inval_for, is_new}
+use Rattle.peer_lock.specs.Delivery.{Delivery, Gets, NoCall, Pongs, closed_to_calls, delivered, delivery_refused, found}
+use Rattle.peer_lock.specs.Delivery.{found_refused, inval_for, is_new}
 use Rattle.peer_lock.specs.Delivery.{is_poke, is_registration, pong_for, regrej_for, unknown_call}
 use Rattle.peer_lock.specs.Delivery.{newcomer as newcomer_at}
 use Rattle.peer_lock.specs.Legs.{NamedLeg, leg_of_remote}
 use Rattle.peer_lock.specs.Makes.{IsDue}
+use Rattle.peer_lock.specs.Errors.{from_step}
 use Rattle.peer_lock.specs.Peer.{PeerView}
 use Rattle.peer_lock.specs.Pokes.{answers_poke, is_own_pong}
 use Rattle.peer_lock.specs.declared.pokes.Pokes.{Pokes}
 use Rattle.peer_lock.specs.Unworked.{IsUnworked, IsWorked}
 use Rattle.peer_lock.specs.declared.errors.PeerError.{PeerError}
 use Rattle.peer_lock.specs.declared.errors.PeerError.TheVariants as errors
+use Rattle.peer_lock.specs.declared.steps.Rejection.{Rejection}
 use Rattle.peer_lock.specs.declared.steps.Step.{Step}
 use Rattle.exchange_core.specs.FirstSteps.{IsOpeningDue}
 use Rattle.exchange_core.specs.Newcomers.{SpellsOpening}
@@ -33,9 +38,12 @@ record IsNewcomer (frame : FullFrame) : Type 0 where
   new : is_new (message_of frame.head) ≡ true
 
 -- at a leg it needs none
-at_leg : (short : Bool) → IsDue (if short then Some errors.RecordFull else None) errors.NeedsNumber → ⊥
-at_leg true why = grind (arith, why)
-at_leg false why = grind (arith, why)
+at_leg : (refused : Option StepError) → IsDue (option_map from_step refused) errors.NeedsNumber → ⊥
+at_leg None why = grind (arith, why)
+at_leg (Some step_errors.RecordFull) why = grind (arith, why)
+at_leg (Some step_errors.Unaddressed) why = grind (arith, why)
+at_leg (Some step_errors.NewUnacknowledged) why = grind (arith, why)
+at_leg (Some step_errors.Memory) why = grind (arith, why)
 
 mini_needs_none : (leg : Option NamedLeg) → IsDue (mini_refused leg) errors.NeedsNumber → ⊥
 mini_needs_none None why = grind (arith, why)
@@ -73,16 +81,16 @@ no_pong true true rest why = grind (arith, why)
 no_pong true false rest why = grind (arith, why)
 no_pong false counts rest why = why
 
-newcomer : (drains : Bool) (rules : PeerRules) (pokes : Pokes) (frame : FullFrame) (now : ℕ) (at : Option NamedLeg)
-    → IsDue (delivery_refused (delivered drains rules pokes at frame now)) errors.NeedsNumber → IsNewcomer frame
-newcomer drains rules pokes frame now (Some named) why = absurd (at_leg (is_record_full named.leg) why)
-newcomer drains rules pokes frame now None why =
-    let other = no_pong (is_own_pong rules frame.head) (answers_poke pokes frame.head) (unknown_call drains rules frame now)
+newcomer : (closed : Option Rejection) (rules : PeerRules) (pokes : Pokes) (frame : FullFrame) (now : ℕ) (at : Option NamedLeg)
+    → IsDue (found_refused at (delivered closed rules pokes at frame now) frame) errors.NeedsNumber → IsNewcomer frame
+newcomer closed rules pokes frame now (Some named) why = absurd (at_leg (frame_refused named.leg frame) why)
+newcomer closed rules pokes frame now None why =
+    let other = no_pong (is_own_pong rules frame.head) (answers_poke rules pokes frame.head) (unknown_call closed rules frame now)
     why in
     let are = tests (frame.head.destination == 0) (is_new (message_of frame.head)) (frame.head.oseqno == 0)
     (rules.poke && is_poke (message_of frame.head))
     (rules.is_hardened && is_registration frame.head) (is_numbered (message_of frame.head)) frame.head
-    (newcomer_at drains rules.call_tokens frame now) other in
+    (newcomer_at closed rules.call_tokens frame now) other in
     record { destination = number_of frame.head.destination are.0; first = number_of frame.head.oseqno are.2; new = are.1 }
 
 module _ (credit made : ℕ) (octets : List ℕ) (peer : PeerView) (now : ℕ) where
@@ -95,15 +103,15 @@ module _ (credit made : ℕ) (octets : List ℕ) (peer : PeerView) (now : ℕ) w
   opens : (d : Datagram) → IsWorked credit made octets d → IsDue (datagram_refused peer d now) errors.NeedsNumber
       → SpellsOpening octets
   opens (Full frame) worked why =
-      let is = newcomer peer.drains peer.rules peer.pokes frame now (found peer.legs frame) why in
+      let is = newcomer (closed_to_calls peer) peer.rules peer.pokes frame now (found peer.legs frame) why in
       record {
         frame = frame;
         spelled = worked.spelled;
         opening = record { sound = worked.sound; destination = is.destination; first = is.first; new = is.new };
       }
   opens (Mini mini) worked why = absurd (mini_needs_none (leg_of_remote peer.legs mini.source) why)
-  opens (Video video) worked why = absurd (at_leg false why)
-  opens (Trunk trunk) worked why = absurd (at_leg false why)
+  opens (Video video) worked why = absurd (at_leg None why)
+  opens (Trunk trunk) worked why = absurd (at_leg None why)
 
   of_refusal : IsUnworked credit made octets errors.NeedsNumber ⊎ ((d : Datagram) × IsWorked credit made octets d ×
       IsDue (datagram_refused peer d now) errors.NeedsNumber)

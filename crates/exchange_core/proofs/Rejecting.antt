@@ -55,7 +55,7 @@ unasked_rejects_none : (call : Call) (offer : Option Offer) (need : Need) (reply
 unasked_rejects_none call offer (needs.OpenOut name) reply is = sym (ap rejection_of is.0)
 unasked_rejects_none call offer (needs.Order name command) reply is = sym (ap rejection_of is.0)
 unasked_rejects_none call offer (needs.Look peer number) reply is = sym (ap rejection_of is.0)
-unasked_rejects_none call offer (needs.Retire name) reply is = sym (ap rejection_of is)
+unasked_rejects_none call offer (needs.Retire name) reply is = sym (ap rejection_of is.0)
 unasked_rejects_none call offer (needs.Route name) (replies.Route route) is = refl
 unasked_rejects_none call offer need reply is = absurd is
 
@@ -79,8 +79,8 @@ rejection_is call offer need reply (mades.Reserve peer answer) made = sym (ap re
 rejection_is call offer need reply (mades.Bridge one other answer) made = sym (ap rejection_of made.1)
 rejection_is call offer need reply (mades.Partner name answer) made = sym (ap rejection_of made.1)
 rejection_is call offer need reply (mades.Release name answer) made = sym (ap rejection_of made.1)
-rejection_is call offer need reply (mades.TakeOut peer out) made = absurd made
 rejection_is call offer need reply mades.Unasked made = unasked_rejects_none call offer need reply made
+rejection_is call offer need reply step made = absurd made
 
 -- an answer that rejects something is a step
 rejecting_is_made : (reply : Reply) → IsSome (rejection_of reply) → is_made reply ≡ true

@@ -1,6 +1,6 @@
 -- The steps of a call, and one step more.
 use Rattle.std.specs.Option.{option_or}
-use Rattle.std.specs.Prelude.{◌≡◌, List, [], ◌∷◌, ◌++◌, Option, Some, refl}
+use Rattle.std.specs.Prelude.{◌≡◌, List, [], ◌∷◌, ◌++◌, Option, None, Some, refl}
 use Rattle.std.proofs.Common.{append_assoc, append-nil, ap, drop, length, sym, ◌∙◌}
 use Rattle.std.proofs.Math.Seq.{drop-append_seam}
 use Rattle.call_control.specs.Work.{next_of}
@@ -42,3 +42,26 @@ pub last_longer : {A : Type 0} (report : Made → Option A) (steps : List Made) 
     → last_of report (steps ++ step ∷ []) before ≡ option_or (report step) (last_of report steps before)
 last_longer report [] step before = refl
 last_longer report (first ∷ rest) step before = last_longer report rest step (option_or (report first) before)
+
+-- the last report in the steps noted since then
+pub record LastSince {A : Type 0} (report : Made → Option A) (first now : Noted) (last : Option A) : Type 0 where
+  pub steps : List Made
+  pub noted : now.made ≡ first.made ++ steps
+  pub is : last ≡ last_of report steps None
+
+pub none_yet : {A : Type 0} (report : Made → Option A) (pass : Noted) → LastSince report pass pass None
+none_yet report pass = record { steps = []; noted = sym (append-nil pass.made); is = refl }
+
+pub last_since : {A : Type 0} (report : Made → Option A) (first now : Noted) (last : Option A) → LastSince report first now last
+    → last ≡ last_of report (noted_since first now) None
+last_since report first now last since =
+    since.is ∙ ap (λ steps. last_of report steps None) (sym (noted_is first now since.steps since.noted))
+
+pub last_more : {A : Type 0} (report : Made → Option A) (first old new : Noted) (step : Made) (before after : Option A)
+    → LastSince report first old before → new.made ≡ old.made ++ step ∷ [] → after ≡ option_or (report step) before
+    → LastSince report first new after
+last_more report first old new step before after since noted is = record {
+  steps = since.steps ++ step ∷ [];
+  noted = noted ∙ ap (λ made. made ++ step ∷ []) since.noted ∙ append_assoc first.made since.steps (step ∷ []);
+  is = is ∙ ap (option_or (report step)) since.is ∙ sym (last_longer report since.steps step None);
+}

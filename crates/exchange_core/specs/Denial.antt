@@ -48,6 +48,14 @@ denied_by steps = unless_made (steps_in steps) (last_of denial_by steps None)
 abbrev pub denied_since : Noted → Noted → Option Denial
 denied_since old new = denied_by (noted_since old new)
 
+-- .. as the refusal of a datagram or a tick, which has no other denial
+abbrev pub refusal_in : Option Denial → Option Refusal
+refusal_in (Some (denials.Call refusal)) = Some refusal
+refusal_in denial = None
+
+abbrev pub refused_since : Noted → Noted → Option Refusal
+refused_since old new = refusal_in (denied_since old new)
+
 -- the denial after an answer: only answers to first steps count
 abbrev pub noted : Option Beginning → Reply → Option Denial → Option Denial
 noted (Some begun) reply denial = denial_of reply

@@ -1,7 +1,9 @@
 -- The needs of a call's first steps, and what they leave to the next.
+use Rattle.std.specs.Option.{option_or}
 use Rattle.std.specs.Prelude.{◌≡◌, ℕ, ◌<◌, Option, None, Some, Ok, Err, IsSome, IfSome}
 use Rattle.call_book.specs.declared.leg_name.LegName.{LegName}
 use Rattle.peer_lock.specs.Accounts.{Credit, with_step}
+use Rattle.peer_lock.specs.declared.errors.OpenError.TheVariants as open_errors
 use Rattle.peer_lock.specs.declared.errors.PeerError.TheVariants as peer_errors
 use Rattle.call_control.specs.declared.need.Need.{Need}
 use Rattle.call_control.specs.declared.need.Need.TheVariants as needs
@@ -9,6 +11,7 @@ use Rattle.call_control.specs.declared.place.Place.{Place}
 use Rattle.call_control.specs.declared.place.Place.TheVariants as places
 use Rattle.call_control.specs.declared.reply.Reply.{Reply}
 use Rattle.call_control.specs.declared.reply.Reply.TheVariants as replies
+use Rattle.exchange_core.specs.Names.{named_of}
 use Rattle.exchange_core.specs.declared.denial.Denial.{Denial}
 
 -- a call begins here, at one of the plan's peers
@@ -45,13 +48,18 @@ KeepsPeer need reply = Unit {0}
 
 -- the last name that the book gave
 abbrev pub named_after : Reply → Option LegName → Option LegName
-named_after (replies.Reserve (Ok name)) named = Some name
-named_after reply named = named
+named_after reply named = option_or (named_of reply) named
 
 -- a leg was opened by a NEW of this exchange
 abbrev pub IsOpenedOut : Reply → Type 0
 IsOpenedOut (replies.OpenOut (Ok done)) = Unit {0}
 IsOpenedOut reply = ⊥
+
+-- such a NEW is refused neither because its peer drains nor for its source
+abbrev pub FitsOpenOut : Reply → Type 0
+FitsOpenOut (replies.OpenOut (Err open_errors.Draining)) = ⊥
+FitsOpenOut (replies.OpenOut (Err open_errors.RemoteBusy)) = ⊥
+FitsOpenOut reply = Unit {0}
 
 -- Unless it is denied, the call that began here made one step without media. It was at a leg of its peer under the last
 -- name that the book gave.

@@ -1,7 +1,9 @@
 pub mod Covered
 pub mod Denial
+pub mod Draining
 pub mod FirstSteps
 pub mod Leaving
+pub mod Names
 pub mod Newcomers
 pub mod Numbers
 pub mod Refusals

@@ -16,6 +16,7 @@ use Rattle.call_control.specs.declared.reply.StepReply.{StepReply}
 use Rattle.call_control.specs.declared.reply.Reply.{Reply}
 use Rattle.call_control.specs.declared.reply.Reply.TheVariants as replies
 use Rattle.iax_frames.specs.FullFrame.{SpellsFull}
+use Rattle.memory_requests.specs.Refused.{WasRefused}
 use Rattle.step_log.specs.Notes.{Noted, Notes}
 use Rattle.step_log.specs.declared.made.Made.{Made}
 use Rattle.step_log.specs.declared.made.Made.TheVariants as mades
@@ -96,8 +97,8 @@ LacksFormat plan None peer = Unit {0}
 LacksFormat plan (Some offer) peer = option_map (λ peer. format_for offer peer.rules.formats) (slice_get plan.peers peer) ≡
     Some None
 
--- The needs that are answered without a locked state. The peer isn't in the plan, memory was refused for a leg to be taken
--- out, nothing is offered, the peer lacks the format, or the need is a route.
+-- The needs that are answered without a locked state. The peer isn't in the plan, a request for memory was refused for a leg
+-- to be taken out, nothing is offered, the peer lacks the format, or the need is a route.
 abbrev pub IsUnasked : Call → Option Offer → Need → Reply → Type 0
 IsUnasked call offer (needs.OpenOut name) reply =
     (reply ≡ replies.OpenOut (Err open_errors.NumberBusy)) ×
@@ -105,7 +106,8 @@ IsUnasked call offer (needs.OpenOut name) reply =
 IsUnasked call offer (needs.Order name command) reply = (reply ≡ replies.Order (Err order_errors.Gone)) ×
     (length call.plan.peers ≤ name.peer)
 IsUnasked call offer (needs.Look peer number) reply = (reply ≡ replies.Look None) × (length call.plan.peers ≤ peer)
-IsUnasked call offer (needs.Retire name) reply = reply ≡ replies.Retire false
+IsUnasked call offer (needs.Retire name) reply = (reply ≡ replies.Retire false) ×
+    ((length call.plan.peers ≤ name.peer) ⊎ WasRefused)
 IsUnasked call offer (needs.Route name) (replies.Route route) = IsRoute call.plan name.peer offer route
 IsUnasked call offer need reply = ⊥
 
@@ -135,8 +137,9 @@ IsMade call offer need reply (mades.Reserve peer answer) = (need ≡ needs.Reser
 IsMade call offer need reply (mades.Bridge one other answer) = (need ≡ needs.Bridge one other) × (reply ≡ replies.Bridge answer)
 IsMade call offer need reply (mades.Partner name answer) = (need ≡ needs.Partner name) × (reply ≡ replies.Partner answer)
 IsMade call offer need reply (mades.Release name answer) = (need ≡ needs.Release name) × (reply ≡ replies.Release answer)
-IsMade call offer need reply (mades.TakeOut peer out) = ⊥
 IsMade call offer need reply mades.Unasked = IsUnasked call offer need reply
+-- no call takes out a datagram, sets whether a peer drains, or asks for anybody else
+IsMade call offer need reply made = ⊥
 
 -- the pass has noted exactly this one more step
 pub record Makes (call : Call) (offer : Option Offer) (need : Need) (reply : Reply) (old new : Noted) : Type 0 where

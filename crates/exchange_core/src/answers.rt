@@ -1,7 +1,8 @@
 //! The answers of an exchange's calls.
-ghost use Rattle.std.specs.Prelude.{◌≡◌};
+ghost use Rattle.std.specs.Prelude.{◌≡◌, false};
 ghost use Rattle.peer_lock.specs.Statuses.{IsHistory};
-ghost use Rattle.exchange_core.specs.Refusals.{from_peer, from_open, from_reject, from_reserve};
+ghost use Rattle.peer_lock.specs.declared.errors.OpenError.{OpenError as OpenErrorValue};
+ghost use Rattle.exchange_core.specs.Refusals.{from_peer, from_open, from_reject, from_reserve, reserves_nothing};
 
 use call_book::{LegName, ReserveError};
 use peer_lock::{LegFacts, OpenError, PeerError, RejectError, Rejection};
@@ -32,12 +33,18 @@ pub enum Refusal {
     NoCall,
     /// The leg's record has no room for one more full frame and its answer.
     RecordFull,
+    /// A frame of destination 0 for a leg whose peer knows its number.
+    Unaddressed,
+    /// An answer to a NEW that isn't acknowledged.
+    NewUnacknowledged,
     /// No serial is left for a name.
     SerialsSpent,
     /// No number of the peer is free.
     NoNumber,
     /// A leg has that number.
     NumberBusy,
+    /// The peer began to drain while a number was reserved for the NEW.
+    Draining,
     /// A leg has that remote number already.
     RemoteBusy,
     /// A request for memory was refused.
@@ -61,7 +68,38 @@ impl Refusal {
             PeerError::NoToken => Some(Refusal::NoToken),
             PeerError::NoCall => Some(Refusal::NoCall),
             PeerError::RecordFull => Some(Refusal::RecordFull),
+            PeerError::Unaddressed => Some(Refusal::Unaddressed),
+            PeerError::NewUnacknowledged => Some(Refusal::NewUnacknowledged),
             PeerError::Memory => Some(Refusal::Memory),
+        }
+    }
+
+    /// Returns whether no number was reserved for a datagram of this refusal, so that the exchange is as if the datagram had
+    /// never come. Refusals that the opening of a leg gives too aren't among these.
+    pub fn reserves_nothing(self) -> bool
+        ensures value { result ≡ reserves_nothing self }
+        ensures opening { (error : OpenErrorValue) → from_open error ≡ self → result ≡ false }
+    {
+        match self {
+            Refusal::StepsSpent
+            | Refusal::NumberBusy
+            | Refusal::Draining
+            | Refusal::RemoteBusy
+            | Refusal::Memory => false,
+            Refusal::Stranger
+            | Refusal::TooLong
+            | Refusal::Short
+            | Refusal::MetaCommand
+            | Refusal::EntryCut
+            | Refusal::NoSource
+            | Refusal::Cut
+            | Refusal::NoToken
+            | Refusal::NoCall
+            | Refusal::RecordFull
+            | Refusal::Unaddressed
+            | Refusal::NewUnacknowledged
+            | Refusal::SerialsSpent
+            | Refusal::NoNumber => true,
         }
     }
 }
@@ -73,6 +111,7 @@ impl From<OpenError> for Refusal {
         match error {
             OpenError::StepsSpent => Refusal::StepsSpent,
             OpenError::NumberBusy => Refusal::NumberBusy,
+            OpenError::Draining => Refusal::Draining,
             OpenError::RemoteBusy => Refusal::RemoteBusy,
             OpenError::Memory => Refusal::Memory,
         }

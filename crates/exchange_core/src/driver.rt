@@ -6,6 +6,7 @@ ghost use Rattle.call_control.specs.MediaLeft.{media_left};
 ghost use Rattle.exchange_core.specs.Denial.{Denies, denied_since};
 ghost use Rattle.exchange_core.specs.FirstSteps.{CallIsMade, StartsInPlan};
 ghost use Rattle.exchange_core.specs.Leaving.{Leave, departure_of};
+ghost use Rattle.exchange_core.specs.Names.{named_since};
 ghost use Rattle.exchange_core.specs.Numbers.{IsCalled};
 ghost use Rattle.exchange_core.specs.Rejections.{rejected_since};
 ghost use Rattle.exchange_core.specs.Traces.{MakesAll, call_of};
@@ -48,6 +49,8 @@ impl<G: Gate, J: LedgerSet> Exchange<G, J> {
         ensures rejected { (result.rejected ≡ rejected_since pass.old pass.new) × (IsSome result.rejected → 1 ≤ result.steps) }
         // The legs that were taken out in these steps.
         ensures retired { Leave given.entry.now.now pass.old pass.new (map departure_of result.retired.items) }
+        // The last name that the book gave in these steps.
+        ensures named { result.named ≡ named_since pass.old pass.new }
         ensures call { CallIsMade work.old.work.place pass.old.credit pass.new.credit result.denial result.named }
     {
         media_is_carried_once();

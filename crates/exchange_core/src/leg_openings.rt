@@ -1,10 +1,11 @@
 //! The openings of legs: by a received NEW, of a far leg, and of a call from outside. Also the rejection of a NEW for which
 //! no number is free.
 ghost use Rattle.std.specs.Option.{ForSome};
-ghost use Rattle.std.specs.Prelude.{◌≡◌, ◌≢◌, ◌+◌, ◌<◌, ◌≤◌, ◌⊎◌, length, None, Option, Some, Err, option_copied, option_map};
+ghost use Rattle.std.specs.Prelude.{◌≡◌, ◌+◌, ◌<◌, ◌≤◌, ◌⊎◌, length, None, Option, Some, Err, option_copied, option_map};
 ghost use Rattle.std.specs.Prelude.{slice_get, IfNone, IfOk, IfErr, IfSome, IsSome, OnOk, OnErr, OnSome};
 ghost use Rattle.call_signals.specs.Format.{lowest_format};
 ghost use Rattle.exchange_core.specs.Covered.{TakesCredit};
+ghost use Rattle.exchange_core.specs.FirstSteps.{FitsOpenOut};
 ghost use Rattle.exchange_core.specs.Newcomers.{SpellsOpening};
 ghost use Rattle.call_control.specs.declared.need.Need.TheVariants as needs;
 ghost use Rattle.call_control.specs.declared.reply.Reply.TheVariants as replies;
@@ -121,7 +122,7 @@ impl<G: Gate, J: LedgerSet> Exchange<G, J> {
             (caller_of (option_copied call.now.caller)) call.now.format now (without_lease result)) pass.old pass.new }
         ensures credit { OnOk result (pass.new.credit ≡ with_step pass.old.credit 0) }
         ensures lease { IfErr result (λ back. back.0 ≡ lease) }
-        ensures no_remote { IfErr result (λ back. back.1 ≢ OpenError.RemoteBusy) }
+        ensures fits { IfErr result (λ back. FitsOpenOut (replies.OpenOut (Err back.1))) }
         ensures refused { OnErr result (pass.new.credit ≡ pass.old.credit) }
     {
         let peer = lease.name().owner();
@@ -155,7 +156,7 @@ impl<G: Gate, J: LedgerSet> Exchange<G, J> {
         ensures credit { OnOk result (pass.new.credit ≡ with_step pass.old.credit 0) ×
             OnErr result (pass.new.credit ≡ pass.old.credit) }
         ensures lease { OnOk result (resources.new.lease ≡ None) × OnErr result (resources.new.lease ≡ resources.old.lease) }
-        ensures no_remote { result ≢ Err OpenError.RemoteBusy }
+        ensures fits { FitsOpenOut (replies.OpenOut result) }
         ensures rest { (resources.new.denial ≡ resources.old.denial) × (resources.new.retired_legs ≡ resources.old.retired_legs) ×
             (resources.new.named ≡ resources.old.named) }
     {

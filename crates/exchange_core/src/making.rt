@@ -1,7 +1,7 @@
 //! Makes each step that a call can need.
 ghost use Rattle.std.specs.Option.{ForSome};
 ghost use Rattle.std.specs.List.{AllByRecursion};
-ghost use Rattle.std.specs.Prelude.{◌≡◌, ◌≢◌, ℕ, ◌+◌, ◌<◌, ◌≤◌, length, Option, None, Some, Err, true, false, IfOk};
+ghost use Rattle.std.specs.Prelude.{◌≡◌, ℕ, ◌+◌, ◌<◌, ◌≤◌, length, Option, None, Some, Err, true, false, IfOk};
 ghost use Rattle.std.specs.Prelude.{IsSome, OnOk, OnErr};
 ghost use Rattle.call_book.specs.declared.leg_name.LegName.{LegName as LegNameValue};
 ghost use Rattle.call_control.specs.Beginnings.{is_answer, is_made};
@@ -11,7 +11,8 @@ ghost use Rattle.call_control.specs.MediaLeft.{media_of, media_needed, handed_by
 ghost use Rattle.call_control.specs.declared.need.Need.TheVariants as needs;
 ghost use Rattle.call_control.specs.declared.reply.Reply.TheVariants as replies;
 ghost use Rattle.exchange_core.specs.Covered.{IsCovered};
-ghost use Rattle.exchange_core.specs.FirstSteps.{InPlan, IsOfNew, IsOpenedOut, IsOpeningDue, KeepsPeer, named_after};
+ghost use Rattle.exchange_core.specs.FirstSteps.{FitsOpenOut, InPlan, IsOfNew, IsOpenedOut, IsOpeningDue, KeepsPeer};
+ghost use Rattle.exchange_core.specs.FirstSteps.{named_after};
 ghost use Rattle.exchange_core.specs.Newcomers.{SpellsOpening};
 ghost use Rattle.exchange_core.specs.Leaving as leaving;
 ghost use Rattle.exchange_core.specs.Leaving.{Leaves, leaving_of};
@@ -30,7 +31,7 @@ use call_book::{Lease, LegName, PeerId, ReserveError, Stale};
 use call_control::{Need, Reply, StepReply, Work};
 use leg_machine::{Command, MediaSpan, order_of};
 use peer_lock::laws::media_is_the_datagrams;
-use peer_lock::{LedgerSet, OpenError, OrderError, Status, StepsSpent};
+use peer_lock::{LedgerSet, OrderError, Status, StepsSpent};
 use std::sync::Wait;
 use step_log::Pass;
 
@@ -66,7 +67,7 @@ impl<G: Gate, J: LedgerSet> Exchange<G, J> {
         requires peer { peer < length self.now.peers }
         ensures answer { (is_answer (Some (needs.Datagram peer)) result ≡ true) ×
             (IsOpeningDue result → SpellsOpening given.entry.now.datagram) ×
-            (result ≢ replies.OpenOut (Err OpenError.RemoteBusy)) }
+            FitsOpenOut result }
         ensures noted { (offer : Option OfferValue) →
             Makes (call_of self.now given.entry.now) offer (needs.Datagram peer) result pass.old pass.new }
         ensures steps { (is_made result ≡ true → pass.new.credit.steps ≡ pass.old.credit.steps + 1) ×
@@ -268,7 +269,7 @@ impl<G: Gate, J: LedgerSet> Exchange<G, J> {
         // The answer fits the need: a name is one of the peer that was meant.
         ensures answer { (is_answer (Some need) result ≡ true) × KeepsPeer (Some need) result ×
             (IsOpeningDue result → SpellsOpening given.entry.now.datagram) ×
-            (result ≢ replies.OpenOut (Err OpenError.RemoteBusy)) }
+            FitsOpenOut result }
         // Exactly this step is noted under the pass, with this answer.
         ensures noted { Makes (call_of self.now given.entry.now) (offer_in work.now.onwards) need result pass.old pass.new }
         // A step of a peer is made if and only if the answer says so.

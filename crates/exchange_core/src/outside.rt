@@ -6,6 +6,7 @@ ghost use Rattle.call_control.specs.Work as work;
 ghost use Rattle.call_control.specs.WorkState.{begun};
 ghost use Rattle.exchange_core.specs.Denial.{Denies, denied_since};
 ghost use Rattle.exchange_core.specs.Leaving.{Leave, departure_of};
+ghost use Rattle.exchange_core.specs.Names.{named_since};
 ghost use Rattle.exchange_core.specs.Numbers.{IsCalled};
 ghost use Rattle.exchange_core.specs.Refusals.{from_call};
 ghost use Rattle.exchange_core.specs.Rejections.{rejected_since};
@@ -228,7 +229,8 @@ impl<G: Gate, J: LedgerSet> Exchange<G, J> {
         ensures called { OnOk result (IsCalled called.now) }
         ensures bad { (IsCalled called.now → ⊥) → result ≡ Err CallError.BadNumber }
         ensures good { IsCalled called.now → result ≢ Err CallError.BadNumber }
-        ensures name { IfOk result (λ name. name.peer ≡ peer) }
+        // The name is the one that the book gave in these steps.
+        ensures name { IfOk result (λ name. (name.peer ≡ peer) × (named_since pass.old pass.new ≡ Some name)) }
         ensures steps { OnOk result (pass.new.credit ≡ with_step pass.old.credit 0) }
         ensures refused { OnErr result (pass.new.credit ≡ pass.old.credit) }
         // It is refused if these steps gave a refusal, and for that reason.

@@ -2,6 +2,7 @@
 ghost use Rattle.std.specs.Prelude.{◌≡◌, ◌<◌, None, Some, if◌then◌else◌, length};
 ghost use Rattle.std.specs.Bool.{OnFalse};
 ghost use Rattle.std.specs.Sync.Mutex.{mutex_guard_value};
+ghost use Rattle.exchange_core.specs.Draining.{drained};
 ghost use Rattle.step_log.specs.Notes.{note};
 ghost use Rattle.step_log.specs.declared.made.Made.TheVariants as mades;
 
@@ -38,14 +39,23 @@ impl<G: Gate, J: LedgerSet> Exchange<G, J> {
     }
 
     /// Sets whether a peer of the plan drains. While it does, a NEW that belongs to no leg opens none and is answered by
-    /// REJECT with cause 42, in every plan version. Current legs continue, and so do calls that are being set up. It is no
-    /// step.
-    pub fn set_draining<R: Wait>(&self, rt: &R, _pass: &mut Pass<J>, peer: PeerId, drains: bool)
+    /// REJECT with cause 42, in every plan version. Current legs continue, and so do calls that are being set up. It is
+    /// noted, and is no step.
+    pub fn set_draining<R: Wait>(&self, rt: &R, pass: &mut Pass<J>, peer: PeerId, drains: bool)
         requires { peer < length self.now.peers }
-        ensures { _pass.new ≡ _pass.old }
+        ensures { pass.new ≡ note (mades.SetDraining peer drains) pass.old }
     {
         let mut state = self.locked(rt, peer);
-        state.set_draining(drains);
+        state.set_draining(pass, drains);
+    }
+
+    /// Sets whether all peers of the plan drain, or none: one after another, each as `set_draining` does.
+    pub fn set_all_draining<R: Wait>(&self, rt: &R, pass: &mut Pass<J>, drains: bool)
+        ensures { pass.new ≡ drained (length self.now.peers) drains pass.old }
+    {
+        for place in 0..self.plan.peer_count() {
+            self.set_draining(rt, pass, PeerId::new(place), drains);
+        }
     }
 
     /// Takes the oldest datagram for a peer of the plan, or returns `None` if none waits. It is noted, and is no step.

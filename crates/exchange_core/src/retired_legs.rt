@@ -3,6 +3,7 @@ ghost use Rattle.std.specs.Prelude.{◌+◌, ◌≤◌, ◌<◌, IsSome, vec_len
 
 use crate::answers::Retired;
 use call_book::LegName;
+use memory_requests::reserve;
 use peer_lock::EndedLeg;
 use std::alloc::Global;
 
@@ -18,8 +19,10 @@ pub(crate) struct RetiredLegs {
 
 impl RetiredLegs {
     ghost use Rattle.std.specs.Prelude.{◌≡◌, ◌++◌, None, Some, IsTrue, map, option_map};
+    ghost use Rattle.std.specs.Bool.{OnFalse};
     ghost use Rattle.std.specs.Option.{option_to_list};
     ghost use Rattle.exchange_core.specs.Leaving.{all_left, departure_of, given_up_at, leaving_of, nobody, parted};
+    ghost use Rattle.memory_requests.specs.Refused.{WasRefused};
     ghost use Rattle.peer_lock.specs.Statuses.{IsHistory};
 
     // Returns an empty list.
@@ -32,12 +35,13 @@ impl RetiredLegs {
         }
     }
 
-    // Reserves room for one more. Returns false if memory was refused.
+    // Reserves room for one more. Returns false only if the request was refused.
     pub(crate) fn make_room(&mut self) -> bool
         ensures same { leaving_of self.new ≡ leaving_of self.old }
         ensures room { IsTrue result → vec_len self.new.gone + 2 ≤ vec_capacity self.new.gone }
+        ensures refused { OnFalse result WasRefused }
     {
-        self.gone.try_reserve(2).is_ok()
+        reserve(&mut self.gone, 2).is_ok()
     }
 
     // Moves the last one, if there is one, behind those before it. There is room for it.

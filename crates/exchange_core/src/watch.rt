@@ -18,24 +18,45 @@ pub enum ServiceStage {
 /// An event of a turn.
 #[derive(Clone, Copy, Debug, PartialEq, Eq)]
 pub enum Event {
-    /// A datagram of a peer was received, at this moment, in milliseconds since the exchange was opened.
-    Received { peer: PeerId, now: u64 },
+    /// A datagram of a peer was received, at this moment, in milliseconds since the exchange was opened. `is_alive` says
+    /// whether it is a sign of life: it wasn't refused, or is a full frame of type IAX.
+    Received {
+        peer: PeerId,
+        now: u64,
+        is_alive: bool,
+    },
     /// The exchange refused it.
-    Refused { peer: PeerId, refusal: Refusal },
+    Refused {
+        peer: PeerId,
+        refusal: Refusal,
+    },
     /// The exchange accepted it, and rejected its request in the answer.
-    Rejected { peer: PeerId, rejection: Rejection },
+    Rejected {
+        peer: PeerId,
+        rejection: Rejection,
+    },
     /// It was kept from the exchange: a NEW, while the service drains.
-    TurnedAway { peer: PeerId },
+    TurnedAway {
+        peer: PeerId,
+    },
     /// A datagram was received from an endpoint that no peer of the plan has, and is refused.
-    Stranger { from: Endpoint },
+    Stranger {
+        from: Endpoint,
+    },
     /// A datagram was sent to a peer.
-    Sent { peer: PeerId },
+    Sent {
+        peer: PeerId,
+    },
     /// The wire didn't take a datagram to a peer: it is lost.
-    Lost { peer: PeerId },
+    Lost {
+        peer: PeerId,
+    },
     /// A call of the wire failed.
     Fault,
     /// A leg of a peer was taken out.
-    Retired { peer: PeerId },
+    Retired {
+        peer: PeerId,
+    },
 }
 
 /// Supplies the lifecycle stage; receives the workers' events. The workers of a service share it. So its calls come from

@@ -4,7 +4,7 @@ use clap::{Arg, ArgAction, Command};
 use std::alloc::{AllocError, Global};
 
 /// The version of the program.
-pub(crate) const VERSION: &str = "1.0.0";
+pub(crate) const VERSION: &str = "2.0.0";
 
 /// The values that an argument takes.
 #[derive(Clone, Copy)]

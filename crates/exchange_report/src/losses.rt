@@ -1,6 +1,6 @@
 //! The losses on the way to a peer.
 ghost use Rattle.std.specs.Prelude.{◌≡◌, ◌<◌, length};
-ghost use Rattle.exchange_report.specs.Losses.{frames_of};
+ghost use Rattle.exchange_report.specs.Losses.{LooksForLosses, frames_of};
 
 use exchange_core::{Exchange, NoGate, Pass};
 use peer_lock::{LedgerSet, Losses};
@@ -26,7 +26,7 @@ impl PeerLosses {
     }
 }
 
-/// Returns the losses on the way to a peer of the plan.
+/// Returns the losses on the way to a peer of the plan, by two noted queries.
 pub fn losses_of<J: LedgerSet, R: Wait>(
     rt: &R,
     exchange: &Exchange<NoGate, J>,
@@ -34,7 +34,7 @@ pub fn losses_of<J: LedgerSet, R: Wait>(
     peer: PeerId,
 ) -> PeerLosses
     requires { peer < length exchange.now.peers }
-    ensures { pass.new ≡ pass.old }
+    ensures { LooksForLosses peer result pass.old pass.new }
 {
     let sums = exchange.sums(rt, pass, peer);
     PeerLosses {

@@ -38,9 +38,12 @@ pub fn refusal_name(refusal: Refusal) -> &'static str
         Refusal::NoToken => "NoToken",
         Refusal::NoCall => "NoCall",
         Refusal::RecordFull => "RecordFull",
+        Refusal::Unaddressed => "Unaddressed",
+        Refusal::NewUnacknowledged => "NewUnacknowledged",
         Refusal::SerialsSpent => "SerialsSpent",
         Refusal::NoNumber => "NoNumber",
         Refusal::NumberBusy => "NumberBusy",
+        Refusal::Draining => "Draining",
         Refusal::RemoteBusy => "RemoteBusy",
         Refusal::Memory => "Memory",
     }
@@ -55,6 +58,7 @@ pub fn rejection_name(rejection: Rejection) -> &'static str
         Rejection::Draining => "Draining",
         Rejection::Registration => "Registration",
         Rejection::CallToken => "CallToken",
+        Rejection::ManyEntries => "ManyEntries",
         Rejection::Reflection => "Reflection",
     }
 }

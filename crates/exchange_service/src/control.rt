@@ -3,38 +3,41 @@
 use crate::journal::Journal;
 use crate::running::Settings;
 use crate::service_context::ServiceContext;
-use control_requests::Request;
+use control_requests::{Request, Urgency};
 use control_server::{Clients, Door, NotBound};
 use exchange_report::{count_legs, losses_of};
 use log::{Log, warn};
 use peer_lock::LedgerSet;
 use peer_plan::PeerId;
-use service_api::{ApiHandler, Drain, answer_scrape};
+use service_api::{ApiHandler, Drain, KeptAnswer, answer_scrape, make_scrape};
 use service_log::LogState;
 use service_state::SocketTable;
 use std::alloc::{AllocError, Global};
 use std::fs::{File, Files};
 use std::io;
 use std::net::Net;
+use std::random::RandomSource;
 use std::sync::Wait;
 use std::time::{Clock, Instant};
 
 // The longest wait, in milliseconds: after it the thread looks for silent clients, due log lines, and the end of a drain.
 const WAIT_MS: u64 = 100;
 
-// The time for which clients are answered in a round, in milliseconds. The answer under way at its end is still sent.
-const ROUND_MS: u64 = 100;
+// The time for which queries are answered in a round, and then scrapes, in milliseconds. Each round answers one of each
+// that wait, so that none waits for ever.
+const ROUND_MS: u64 = 20;
 
 // The time for which answers are still sent once the workers are to end, in milliseconds.
 const END_MS: u64 = 500;
 
-/// The listeners with their clients, and the system's table of sockets.
+/// The listeners with their clients, the answer to scrapes, and the system's table of sockets until a thread takes it.
 #[derive(Drop)]
 pub(crate) struct Control<'s> {
     settings: &'s Settings<'s>,
     alloc: Global,
     clients: Clients,
-    table: SocketTable,
+    kept: KeptAnswer,
+    table: Option<SocketTable>,
     // Whether clients still wait for answers because a round was too short.
     is_behind: bool,
     // The moment at which this thread saw that the workers are to end.
@@ -57,6 +60,7 @@ impl<'s> Control<'s> {
             settings,
             alloc,
             clients,
+            kept: KeptAnswer::new(alloc),
             table: SocketTable::open(rt),
             is_behind: false,
             ended: None,
@@ -64,13 +68,18 @@ impl<'s> Control<'s> {
     }
 
     /// Binds the listeners that the settings ask for.
-    pub(crate) fn open<R: Files + Net>(&mut self, rt: &R) -> Result<(), NotBound> {
+    pub(crate) fn open<R: Files + Net + RandomSource>(&mut self, rt: &R) -> Result<(), NotBound> {
         let Settings {
             control,
             metrics,
             ..
         } = *self.settings;
         self.clients.bind(rt, control, metrics)
+    }
+
+    /// Takes the system's table of sockets, if there is one.
+    pub(crate) fn take_table(&mut self) -> Option<SocketTable> {
+        self.table.take()
     }
 
     /// Removes the file of the control socket, if it is bound and still there.
@@ -185,10 +194,10 @@ impl<'s> Control<'s> {
                 );
             }
         }
-        told.look(rt, log, self.alloc, &mut self.table, now);
+        told.look(rt, log, self.alloc, now);
     }
 
-    // Serves each client as far as the system allows. Clients that ask for a stop are answered first.
+    // Serves each client as far as the system allows: first orders, then queries, then scrapes.
     fn serve_all<R: Clock + Wait, J: LedgerSet>(
         &mut self,
         rt: &R,
@@ -199,44 +208,129 @@ impl<'s> Control<'s> {
         for place in 0..self.clients.count() {
             self.clients.hear(place, now);
         }
-        for place in 0..self.clients.count() {
-            if self.is_stop(place) {
-                self.serve(rt, desk, place, now);
-            }
-        }
-        self.is_behind = !self.serve_in_time(rt, desk, opened, now);
+        self.serve_orders(rt, desk, now);
+        self.serve_in_time(rt, desk, Urgency::Query, opened, now);
+        self.make_metrics(rt, desk, opened, now);
+        self.serve_in_time(rt, desk, Urgency::Metrics, opened, now);
         for place in 0..self.clients.count() {
             self.clients.speak(place, now);
         }
+        self.is_behind = self.is_waited_for();
         self.clients.close_ended();
     }
 
-    // Returns whether the client at a place asks for a stop.
-    fn is_stop(&self, place: usize) -> bool {
-        match self.clients.request(place) {
-            Some((Door::Control, request)) => request.path == "/stop",
-            _ => false,
+    // Answers all clients that give an order.
+    fn serve_orders<R: Wait, J: LedgerSet>(
+        &mut self,
+        rt: &R,
+        desk: &mut ApiHandler<'_, J>,
+        now: u64,
+    ) {
+        for place in 0..self.clients.count() {
+            if self.asks_at(place, Urgency::Order) {
+                self.serve(rt, desk, place, now);
+            }
         }
     }
 
-    // Answers clients one after another until the round's time is over. Returns false if some wait for the next round.
+    // Returns whether the client at a place asks at this urgency. Requests at the other listener aren't parsed for that.
+    fn asks_at(&self, place: usize, urgency: Urgency) -> bool {
+        let is_there = match self.clients.door(place) {
+            Some(Door::Control) => urgency != Urgency::Metrics,
+            Some(Door::Metrics) => urgency == Urgency::Metrics,
+            None => false,
+        };
+        is_there && self.clients.urgency(place) == Some(urgency)
+    }
+
+    // Looks for new orders within a round, and answers them.
+    fn look_for_orders<R: Wait, J: LedgerSet>(
+        &mut self,
+        rt: &R,
+        desk: &mut ApiHandler<'_, J>,
+        now: u64,
+    ) {
+        self.clients.admit_control(now);
+        for place in 0..self.clients.count() {
+            if matches!(self.clients.door(place), Some(Door::Control)) {
+                self.clients.hear(place, now);
+            }
+        }
+        self.serve_orders(rt, desk, now);
+    }
+
+    // Answers clients of this urgency one after another until the round's time is over, and at least one.
     fn serve_in_time<R: Clock + Wait, J: LedgerSet>(
+        &mut self,
+        rt: &R,
+        desk: &mut ApiHandler<'_, J>,
+        urgency: Urgency,
+        opened: Instant,
+        now: u64,
+    ) {
+        let begun = moment(rt, opened, now);
+        for place in 0..self.clients.count() {
+            if self.asks_at(place, urgency) {
+                self.serve(rt, desk, place, now);
+                if moment(rt, opened, begun).saturating_sub(begun) >= ROUND_MS {
+                    return;
+                }
+            }
+        }
+    }
+
+    // Makes the metrics if a client waits for them and the kept ones are old. Between their parts it looks for orders.
+    fn make_metrics<R: Clock + Wait, J: LedgerSet>(
         &mut self,
         rt: &R,
         desk: &mut ApiHandler<'_, J>,
         opened: Instant,
         now: u64,
-    ) -> bool {
-        for place in 0..self.clients.count() {
-            if moment(rt, opened, now).saturating_sub(now) >= ROUND_MS {
-                return false;
-            }
-            self.serve(rt, desk, place, now);
+    ) {
+        if self.first_at(Urgency::Metrics).is_none() {
+            return;
         }
-        true
+        let mut now = now;
+        for _ in rt.forever() {
+            if self.kept.is_fresh(now) {
+                return;
+            }
+            now = moment(rt, opened, now);
+            if make_scrape(rt, self.alloc, desk, &mut self.kept, now).is_err() {
+                return self.end_scraper();
+            }
+            self.look_for_orders(rt, desk, now);
+        }
     }
 
-    // Answers a client if its request is complete.
+    // Ends the first client that waits for metrics, for which there was no memory.
+    fn end_scraper(&mut self) {
+        if let Some(place) = self.first_at(Urgency::Metrics) {
+            self.clients.answer(place, Err(AllocError));
+        }
+    }
+
+    // Returns the place of the first client of this urgency.
+    fn first_at(&self, urgency: Urgency) -> Option<usize> {
+        for place in 0..self.clients.count() {
+            if self.asks_at(place, urgency) {
+                return Some(place);
+            }
+        }
+        None
+    }
+
+    // Returns whether a client waits for its answer.
+    fn is_waited_for(&self) -> bool {
+        for place in 0..self.clients.count() {
+            if self.clients.urgency(place).is_some() {
+                return true;
+            }
+        }
+        false
+    }
+
+    // Answers a client at once if its request is complete, and not if it waits for metrics.
     fn serve<R: Wait, J: LedgerSet>(
         &mut self,
         rt: &R,
@@ -244,18 +338,17 @@ impl<'s> Control<'s> {
         place: usize,
         now: u64,
     ) {
-        let (alloc, table) = (self.alloc, &mut self.table);
+        let alloc = self.alloc;
         let answer = match self.clients.request(place) {
             Some((Door::Control, request)) => {
                 Some(control_answer(rt, alloc, &request, desk, now))
             }
-            Some((Door::Metrics, request)) => {
-                Some(answer_scrape(rt, alloc, desk, table, &request, now))
-            }
+            Some((Door::Metrics, request)) => answer_scrape(alloc, &self.kept, &request, now),
             None => None,
         };
         if let Some(octets) = answer {
             self.clients.answer(place, octets);
+            self.clients.speak(place, now);
         }
     }
 }

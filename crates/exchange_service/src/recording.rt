@@ -8,7 +8,7 @@ use call_files::{Calendar, CallOutlets, CallRows, write_calls_beside};
 use jiff::Timestamp;
 use peer_lock::LedgerSet;
 use peer_plan::Plan;
-use service_log::tell_end;
+use service_log::{tell_end, tell_trace_end};
 use service_state::ServiceWatch;
 use std::alloc::{AllocError, Global};
 use std::io::ErrorKind;
@@ -188,7 +188,7 @@ pub(crate) fn watch_of<'s, R: Clock + Eprint, D: Folder>(
 }
 
 // Runs a service, with a thread that writes the trace if one is wanted. Returns false if a thread was refused.
-fn serve_traced<R: Clock + Threads + Wait + Sync, D: Folder + Sync, F: FnOnce() -> bool>(
+fn serve_traced<R: Clock + Eprint + Threads + Wait + Sync, D: Folder + Sync, F: FnOnce() -> bool>(
     context: &ServiceContext<'_, R, D>,
     plan: &Plan,
     trace: Option<&Trace>,
@@ -216,7 +216,9 @@ fn serve_traced<R: Clock + Threads + Wait + Sync, D: Folder + Sync, F: FnOnce() 
         about: about.as_str(),
     };
     let ServiceContext { rt, disk, .. } = *context;
-    write_trace_beside(rt, disk, trace, plan, settings, notes, file, serve)
+    let is_served = write_trace_beside(rt, disk, trace, plan, settings, notes, file, serve);
+    tell_trace_end(&context.journal(), folder.path, trace.state());
+    is_served
 }
 
 /// Runs a service, with the threads that write the rows of ended legs and the trace, if these are wanted. Returns false if

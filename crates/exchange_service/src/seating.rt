@@ -16,7 +16,7 @@ use peer_lock::LedgerSet;
 use peer_plan::Plan;
 use service_api::ApiHandler;
 use service_log::tell_start;
-use service_state::ServiceWatch;
+use service_state::{ServiceWatch, count_drops_beside};
 use std::marker::PhantomData;
 use std::net::Net;
 use std::random::RandomSource;
@@ -99,7 +99,8 @@ fn told_seats<
     seats
 }
 
-// Runs the seats next to a control socket, whose pass is then added back to `passes`.
+// Runs the seats next to a control socket, whose pass is then added back to `passes`, and to a thread that counts the drops
+// at the workers' sockets.
 fn serve_seated<J: LedgerSet, P: PlanBrand + Send + Sync, R: ServiceSystem, D: ServiceDisk>(
     service: &OpenService<'_, R, D, J>,
     written: &mut Written<'_>,
@@ -134,10 +135,20 @@ fn serve_seated<J: LedgerSet, P: PlanBrand + Send + Sync, R: ServiceSystem, D: S
         turns: MOST_TURNS,
         post: PhantomData,
     };
-    let lent = &mut desk;
-    let is_served = serve_written(service, written, move || {
-        serve_seats::<J, P, R, D>(service, &watched, seats, lent, control)
-    });
+    let (lent, workers) = (&mut desk, exchange.plan().workers());
+    let table = control.take_table();
+    let is_served = count_drops_beside(
+        context.rt,
+        context.alloc,
+        table,
+        watch.drops(),
+        workers,
+        move || {
+            serve_written(service, written, move || {
+                serve_seats::<J, P, R, D>(service, &watched, seats, lent, control)
+            })
+        },
+    );
     let ApiHandler { pass, .. } = desk;
     give_back(pass, passes, is_served)
 }

@@ -2,6 +2,7 @@
 mod arrivals;
 mod datagrams;
 mod desk;
+mod drains;
 mod growths;
 mod legs;
 mod losses;

@@ -3,6 +3,7 @@ use Rattle.std.specs.Prelude.{Result, Ok, Err}
 use Rattle.std.proofs.Common.{◌≡◌, ℕ, Bool, true, false, List, Option, Some, None, slice_get, refl, sym, ap, subst, ◌∙◌, inl, inr}
 use Rattle.std.proofs.lemmas.Bool.{cases_Bool}
 use Rattle.call_book.specs.Book.{Book, has_name, reserve_answer, after_reserve, taken, tail, free_of, bridge_answer, partner_of}
+use Rattle.call_book.specs.Book.{after_bridge, after_release, release_answer}
 use Rattle.call_book.specs.declared.errors.BridgeError.{BridgeError}
 use Rattle.call_book.specs.declared.errors.ReserveError.{ReserveError}
 use Rattle.call_book.specs.declared.leg_name.LegName.{LegName}
@@ -19,8 +20,8 @@ use Rattle.call_control.specs.declared.reply.Reply.TheVariants as replies
 use Rattle.peer_lock.specs.Peer.{PeerView}
 use Rattle.peer_lock.specs.declared.errors.OrderError.TheVariants as order_errors
 use Rattle.laws_of_calls.specs.Stored.{Stored, ArePeers, AreSeenIn}
-use Rattle.laws_of_calls.specs.StoredSteps.{AtBook, Reserves, Bridges, Releases, Answers, IsRefused, IsNobodys, after_bridge}
-use Rattle.laws_of_calls.specs.StoredSteps.{after_release, release_answer, look_at, leases_after}
+use Rattle.laws_of_calls.specs.StoredSteps.{AtBook, Reserves, Bridges, Releases, Answers, IsRefused, IsNobodys, leases_after}
+use Rattle.laws_of_calls.specs.StoredSteps.{look_at}
 use Rattle.laws_of_calls.proofs.WorldSteps.{PeersSteps, ComesOut, IsSceneOf}
 
 -- the state after a call of the book for a name

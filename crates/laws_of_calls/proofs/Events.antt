@@ -18,7 +18,7 @@ use Rattle.call_control.specs.declared.reply.Reply.{Reply}
 use Rattle.call_control.specs.declared.reply.Reply.TheVariants as replies
 use Rattle.peer_lock.specs.Outbox.{with_waiting}
 use Rattle.peer_lock.specs.Peer.{PeerView}
-use Rattle.laws_of_calls.specs.Runs.{Begins, TakesOut}
+use Rattle.laws_of_calls.specs.Runs.{Becomes, Begins, SetsDraining, TakesOut}
 use Rattle.laws_of_calls.specs.Runs.{Steps as StoredSteps}
 use Rattle.laws_of_calls.specs.Spent.{is_spent, called_at}
 use Rattle.laws_of_calls.specs.Stored.{Stored, ArePeers, AreSeenIn, IsSeenIn}
@@ -140,21 +140,32 @@ begin_seen called old new world seen b =
       outside = seen.outside;
     })
 
--- sending a datagram isn't seen
-pub out_seen : (called : List LegName) (old new : Stored) (world : World) → IsSeenIn called old world → TakesOut old new
-    → IsSeenIn called new world
-out_seen called old new world seen t =
-    let after : PeerView = record t.before { outbox = with_waiting t.before.outbox t.waiting } in
+-- a change of a peer that leaves its legs isn't seen
+becomes_seen : (called : List LegName) (old new : Stored) (world : World) (place : ℕ) (before after : PeerView)
+    → IsSeenIn called old world → after.legs ≡ before.legs → Becomes place before after old new → IsSeenIn called new world
+becomes_seen called old new world place before after seen legs b =
     record {
-      book = seen.book ∙ sym t.book;
-      callers = seen.callers ∙ sym t.callers;
-      legs = subst (AreSeenIn world.legs) (sym t.peers) (record {
-        sees = λ other peer there. elim (at_set old.peers t.place t.before after t.at other peer there) [
-          | inl here ↦ subst (λ (p : PeerView). Sees world.legs p.legs) here.1 (seen.legs.sees t.place t.before t.at)
+      book = seen.book ∙ sym b.book;
+      callers = seen.callers ∙ sym b.callers;
+      legs = subst (AreSeenIn world.legs) (sym b.peers) (record {
+        sees = λ other peer there. elim (at_set old.peers place before after b.at other peer there) [
+          | inl here ↦
+              subst (λ (p : PeerView). Sees world.legs p.legs) here.1
+              (subst (Sees world.legs) (sym legs) (seen.legs.sees place before b.at))
           | inr apart ↦ seen.legs.sees other peer apart.1
         ];
-        none = λ other number there. seen.legs.none other number
-            (none_at_set old.peers t.place t.before after t.at other there).1;
+        none = λ other number there. seen.legs.none other number (none_at_set old.peers place before after b.at other there).1;
       });
       outside = seen.outside;
     }
+
+pub out_seen : (called : List LegName) (old new : Stored) (world : World) → IsSeenIn called old world → TakesOut old new
+    → IsSeenIn called new world
+out_seen called old new world seen t =
+    becomes_seen called old new world t.place t.before (record t.before { outbox = with_waiting t.before.outbox t.waiting }) seen
+    refl t.becomes
+
+pub draining_seen : (called : List LegName) (old new : Stored) (world : World) → IsSeenIn called old world
+    → SetsDraining old new → IsSeenIn called new world
+draining_seen called old new world seen d =
+    becomes_seen called old new world d.place d.before (record d.before { drains = d.drains }) seen refl d.becomes

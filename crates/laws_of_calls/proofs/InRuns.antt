@@ -9,7 +9,8 @@ use Rattle.call_control.specs.Law.{IsOpened as IsOpenedWorld}
 use Rattle.call_control.specs.Scene.{Choice}
 use Rattle.call_control.specs.World.{World, Event, Starts, Steps as Makes, happens, run}
 use Rattle.peer_lock.specs.Seen.{seen_named}
-use Rattle.laws_of_calls.specs.Runs.{Begins, Steps, TakesOut, Changes, ByBeginning, ByStep, ByTakingOut, IsRun, last_of}
+use Rattle.laws_of_calls.specs.Runs.{Begins, Steps, TakesOut, SetsDraining, Changes, ByBeginning, ByDraining, ByStep, ByTakingOut}
+use Rattle.laws_of_calls.specs.Runs.{IsRun, last_of}
 use Rattle.laws_of_calls.specs.Spent.{is_spent, called_at, called_by, called_since, called_in, IsWithinSteps as IsStepWithin}
 use Rattle.laws_of_calls.specs.Spent.{AreWithinSteps}
 use Rattle.laws_of_calls.specs.Stored.{Stored, ArePeers, HaveRanges, IsOpened, IsSeenIn, opened_world}
@@ -24,6 +25,8 @@ pub record ChangesAreEvents : Type 0 where
       × (is_spent s.reply ≡ false → is_spent_choice choice ≡ false)
       × IsSeenIn (called_at s.caller.work.place s.reply ++ called) new (happens (Makes s.who choice) world)
   pub outboxes : (called : List LegName) (old new : Stored) (world : World) → IsSeenIn called old world → TakesOut old new
+      → IsSeenIn called new world
+  pub drains : (called : List LegName) (old new : Stored) (world : World) → IsSeenIn called old world → SetsDraining old new
       → IsSeenIn called new world
   pub peers : (old new : Stored) → ArePeers old.peers → Changes old new → ArePeers new.peers
   pub ranges : (old new : Stored) → ArePeers old.peers → HaveRanges old → Changes old new → HaveRanges new
@@ -103,6 +106,12 @@ module _ (laws : ChangesAreEvents) (in_runs : InRuns) (first : Stored) (o : IsOp
     spares = reached.spares;
     seen = laws.outboxes called old new (run reached.events (opened_world first)) reached.seen t;
     peers = laws.peers old new reached.peers (ByTakingOut t);
+  }
+  changed called old new reached (ByDraining d) spares = record {
+    events = reached.events;
+    spares = reached.spares;
+    seen = laws.drains called old new (run reached.events (opened_world first)) reached.seen d;
+    peers = laws.peers old new reached.peers (ByDraining d);
   }
 
   leads : (called : List LegName) (old : Stored) (later : List Stored) → IsReached first within called old

@@ -2,7 +2,8 @@
 use Rattle.std.proofs.Common.{◌≡◌, ℕ, List, Some, None, Bool, true, false, slice_get, slice_set, refl, sym, ap, subst, ◌∙◌, inl}
 use Rattle.std.proofs.Common.{inr}
 use Rattle.std.specs.Prelude.{Result, Ok, Err}
-use Rattle.call_book.specs.Book.{Book, reserve_answer, taken, tail, free_of, bridge_answer, has_name}
+use Rattle.call_book.specs.Book.{Book, after_bridge, after_release, bridge_answer, free_of, has_name, reserve_answer, tail}
+use Rattle.call_book.specs.Book.{taken}
 use Rattle.call_book.specs.declared.errors.BridgeError.{BridgeError}
 use Rattle.call_book.specs.declared.errors.ReserveError.{ReserveError}
 use Rattle.call_book.specs.declared.leg_name.LegName.{LegName}
@@ -14,9 +15,9 @@ use Rattle.peer_lock.specs.Legs.{leg_named}
 use Rattle.peer_lock.specs.Openings.{opens_in, opens_out, rejects_new}
 use Rattle.peer_lock.specs.Peer.{PeerView}
 use Rattle.peer_lock.specs.SoundPeer.{IsSoundPeer}
-use Rattle.laws_of_calls.specs.Runs.{Changes, ByBeginning, ByStep, ByTakingOut}
+use Rattle.laws_of_calls.specs.Runs.{Becomes, Changes, ByBeginning, ByDraining, ByStep, ByTakingOut}
 use Rattle.laws_of_calls.specs.Stored.{Stored, IsPeerAt, ArePeers, HasRange, HaveRanges}
-use Rattle.laws_of_calls.specs.StoredSteps.{after_bridge, after_release, TakesDatagram, RejectsNew, TakesNew, SendsNew}
+use Rattle.laws_of_calls.specs.StoredSteps.{TakesDatagram, RejectsNew, TakesNew, SendsNew}
 use Rattle.laws_of_calls.specs.StoredSteps.{TakesOrder, TakesTick, GivesUp, AtPeer, Makes}
 use Rattle.laws_of_calls.proofs.Places.{at_set}
 use Rattle.laws_of_calls.proofs.Shapes.{IsShapedAs, itself, placed, of_datagram, of_order, of_tick}
@@ -103,25 +104,36 @@ module _ (P : ℕ → PeerView → Type 0) (stays : IsOfShape P) where
   made (needs.Release name) old new reply all m = same old new m.peers all
   made (needs.Route name) old new reply all m = same old new m.1.peers all
 
-  outbox_sound : (peer : PeerView) (outbox : OutboxView) → IsSoundPeer peer → IsSoundPeer (record peer { outbox = outbox })
-  outbox_sound peer outbox sound = record {
+  -- a peer is sound whatever waits in its outbox, and whether or not it drains
+  sound_still : (peer : PeerView) (outbox : OutboxView) (drains : Bool) → IsSoundPeer peer
+      → IsSoundPeer (record peer { outbox = outbox; drains = drains })
+  sound_still peer outbox drains sound = record {
     legs = sound.legs;
     kept = record {
       rules = sound.kept.rules;
       ruled = sound.kept.ruled;
       queued = sound.kept.queued;
       one_frame = sound.kept.one_frame;
+      few_of_call = sound.kept.few_of_call;
     };
   }
+
+  becomes_kept : (old new : Stored) (place : ℕ) (before after : PeerView) → EachPeer P old.peers
+      → IsShapedAs before.legs after.legs → IsSoundPeer after → Becomes place before after old new → EachPeer P new.peers
+  becomes_kept old new place before after all shaped sound b =
+      subst (EachPeer P) (sym b.peers) (kept_set old.peers place before after all b.at shaped sound)
 
   pub all_kept : (old new : Stored) → ArePeers old.peers → EachPeer P old.peers → Changes old new → EachPeer P new.peers
   all_kept old new are all (ByBeginning b) = same old new b.peers all
   all_kept old new are all (ByStep s) = made s.need old new s.reply all s.made
   all_kept old new are all (ByTakingOut t) =
-      subst (EachPeer P) (sym t.peers)
-      (kept_set old.peers t.place t.before (record t.before { outbox = with_waiting t.before.outbox t.waiting }) all t.at
+      becomes_kept old new t.place t.before (record t.before { outbox = with_waiting t.before.outbox t.waiting }) all
       (itself t.before.legs)
-      (outbox_sound t.before (with_waiting t.before.outbox t.waiting) (are t.place t.before t.at).sound))
+      (sound_still t.before (with_waiting t.before.outbox t.waiting) t.before.drains (are t.place t.before t.becomes.at).sound)
+      t.becomes
+  all_kept old new are all (ByDraining d) =
+      becomes_kept old new d.place d.before (record d.before { drains = d.drains }) all (itself d.before.legs)
+      (sound_still d.before d.before.outbox d.drains (are d.place d.before d.becomes.at).sound) d.becomes
 
 pub peers_kept : (old new : Stored) → ArePeers old.peers → Changes old new → ArePeers new.peers
 peers_kept old new are change =
@@ -171,7 +183,8 @@ counts_made (needs.Route name) old new reply m = ap (λ (b : Book). b.counts) m.
 counts_kept : (old new : Stored) → Changes old new → new.book.counts ≡ old.book.counts
 counts_kept old new (ByBeginning b) = ap (λ (k : Book). k.counts) b.book
 counts_kept old new (ByStep s) = counts_made s.need old new s.reply s.made
-counts_kept old new (ByTakingOut t) = ap (λ (k : Book). k.counts) t.book
+counts_kept old new (ByTakingOut t) = ap (λ (k : Book). k.counts) t.becomes.book
+counts_kept old new (ByDraining d) = ap (λ (k : Book). k.counts) d.becomes.book
 
 pub ranges_kept : (old new : Stored) → ArePeers old.peers → HaveRanges old → Changes old new → HaveRanges new
 ranges_kept old new are ranges change =

@@ -1,5 +1,5 @@
 -- Many calls at once on a stored exchange: one change after another, in any order.
-use Rattle.std.specs.Prelude.{◌≡◌, ℕ, List, [], ◌∷◌, None, Some, fold, slice_get, slice_set}
+use Rattle.std.specs.Prelude.{◌≡◌, ℕ, Bool, List, [], ◌∷◌, None, Some, fold, slice_get, slice_set}
 use Rattle.call_control.specs.Work.{next_of, after_told}
 use Rattle.call_control.specs.World.{Caller, Start, work_of}
 use Rattle.call_control.specs.declared.need.Need.{Need}
@@ -35,22 +35,34 @@ pub record Steps (old new : Stored) : Type 0 where
   pub made : Makes need old new reply
   pub callers : new.callers ≡ slice_set old.callers who (told caller need reply)
 
+-- the peer of a place changes so, by no call's step; all others stay as they are, and so do the book and the callers
+pub record Becomes (place : ℕ) (before after : PeerView) (old new : Stored) : Type 0 where
+  pub at : slice_get old.peers place ≡ Some before
+  pub peers : new.peers ≡ slice_set old.peers place after
+  pub book : new.book ≡ old.book
+  pub callers : new.callers ≡ old.callers
+
 -- the oldest datagram of a peer's outbox is sent
 pub record TakesOut (old new : Stored) : Type 0 where
   pub place : ℕ
   pub before : PeerView
-  pub at : slice_get old.peers place ≡ Some before
   pub datagram : List ℕ
   pub waiting : List (List ℕ)
   pub oldest : before.outbox.waiting ≡ datagram ∷ waiting
-  pub peers : new.peers ≡ slice_set old.peers place (record before { outbox = with_waiting before.outbox waiting })
-  pub book : new.book ≡ old.book
-  pub callers : new.callers ≡ old.callers
+  pub becomes : Becomes place before (record before { outbox = with_waiting before.outbox waiting }) old new
+
+-- a peer begins to drain, or drains no longer
+pub record SetsDraining (old new : Stored) : Type 0 where
+  pub place : ℕ
+  pub before : PeerView
+  pub drains : Bool
+  pub becomes : Becomes place before (record before { drains = drains }) old new
 
 pub data Changes (old new : Stored) : Type 0 where
   ByBeginning : (begins : Begins old new) → Changes old new
   ByStep : (step : Steps old new) → Changes old new
   ByTakingOut : (out : TakesOut old new) → Changes old new
+  ByDraining : (draining : SetsDraining old new) → Changes old new
 
 -- each state comes from the one before it
 abbrev pub IsRun : Stored → List Stored → Type 0

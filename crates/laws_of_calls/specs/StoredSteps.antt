@@ -3,9 +3,8 @@
 -- the book as in those of `CallBook`.
 use Rattle.std.specs.Prelude.{◌≡◌, ◌⊎◌, ◌↔◌, ℕ, Bool, true, false, List, ◌∷◌, Option, None, Some, Result, Ok, Err, option_map}
 use Rattle.std.specs.Prelude.{slice_get, slice_set, All, IsTrue, if◌then◌else◌}
-use Rattle.call_book.specs.Book.{Book, has_name, reserve_answer, after_reserve, bridge_answer, bridged, partner_of, released}
-use Rattle.call_book.specs.declared.errors.BridgeError.{BridgeError}
-use Rattle.call_book.specs.declared.errors.Stale.{Stale}
+use Rattle.call_book.specs.Book.{Book, after_bridge, after_release, after_reserve, bridge_answer, has_name, partner_of}
+use Rattle.call_book.specs.Book.{release_answer, reserve_answer}
 use Rattle.call_book.specs.declared.leg_name.LegName.{LegName}
 use Rattle.call_signals.specs.declared.format.Format.{Format}
 use Rattle.call_signals.specs.Order.{Order}
@@ -151,18 +150,6 @@ Answers answer old new reply = AtBook old.book answer old new reply
 pub record IsRefused {E : Type 0} (answer : E → Reply) (old new : Stored) (reply : Reply) : Type 0 where
   pub error : E
   pub unchanged : Answers (answer error) old new reply
-
--- the book after a bridge with this answer
-abbrev pub after_bridge : Book → LegName → LegName → Result (Unit {0}) BridgeError → Book
-after_bridge book a b (Ok done) = bridged book a b
-after_bridge book a b (Err error) = book
-
--- the book after a release of a name that it has or not, and its answer
-abbrev pub after_release : Book → LegName → Bool → Book
-after_release book name known = if known then released book name else book
-
-abbrev pub release_answer : Book → LegName → Bool → Result (Option LegName) Stale
-release_answer book name known = if known then Ok (partner_of book name) else Err (record {})
 
 -- the book gives a name out, makes two names partners, or takes a name back
 abbrev pub Reserves : Book → ℕ → Stored → Stored → Reply → Type 0

@@ -1,11 +1,12 @@
 //! The calls of the book, as steps of the stored exchange. Each function makes one call and nothing else, so that its
 //! clauses describe that call.
 ghost use Rattle.std.specs.Prelude.{◌≡◌, [], ◌∷◌};
-ghost use Rattle.call_book.specs.Book.{after_reserve, bridge_answer, has_name, partner_of, reserve_answer};
+ghost use Rattle.call_book.specs.Book.{after_bridge, after_release, after_reserve, bridge_answer, has_name, partner_of};
+ghost use Rattle.call_book.specs.Book.{release_answer, reserve_answer};
 ghost use Rattle.call_control.specs.declared.need.Need.TheVariants as needs;
 ghost use Rattle.call_control.specs.declared.reply.Reply.TheVariants as replies;
 ghost use Rattle.laws_of_calls.specs.PeerCalls.{leases_in};
-ghost use Rattle.laws_of_calls.specs.StoredSteps.{after_bridge, after_release, release_answer, leases_after};
+ghost use Rattle.laws_of_calls.specs.StoredSteps.{leases_after};
 
 use call_book::{CallBook, Lease, LegName, PeerId};
 use call_control::Reply;

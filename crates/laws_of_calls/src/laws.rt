@@ -1,7 +1,8 @@
 //! Laws of the stored peers and the stored book, for many calls in any order of their steps.
 ghost use Rattle.std.specs.Prelude.{◌≡◌, ◌++◌, ℕ, false, List, Some, option_map, slice_get};
 ghost use Rattle.std.specs.List.{AllByRecursion};
-ghost use Rattle.call_book.specs.Book.{after_reserve, bridge_answer, has_name, partner_of, reserve_answer};
+ghost use Rattle.call_book.specs.Book.{after_bridge, after_release, after_reserve, bridge_answer, has_name, partner_of};
+ghost use Rattle.call_book.specs.Book.{release_answer, reserve_answer};
 ghost use Rattle.call_book.specs.declared.leg_name.LegName.{LegName};
 ghost use Rattle.call_control.specs.Law.{NumbersServeOne as ServesOne, IsWithinSteps, NoneIsBusy, NoneIsStale};
 ghost use Rattle.call_control.specs.Law.{is_spent as is_spent_choice};
@@ -17,8 +18,8 @@ ghost use Rattle.peer_lock.specs.Peer.{PeerView};
 ghost use Rattle.peer_lock.specs.Statuses.{status_of};
 ghost use Rattle.laws_of_calls.specs.PeerCalls.{HearsDatagram, HearsNewWithoutNumber, HearsNew, Calls, GoesOn, Retires, IsStepAt};
 ghost use Rattle.laws_of_calls.specs.PeerCalls.{with_book};
-ghost use Rattle.laws_of_calls.specs.StoredSteps.{Makes, TakesOrder, after_bridge, after_release, release_answer};
-ghost use Rattle.laws_of_calls.specs.Runs.{Begins, Steps, TakesOut, Changes, IsRun, last_of};
+ghost use Rattle.laws_of_calls.specs.StoredSteps.{Makes, TakesOrder};
+ghost use Rattle.laws_of_calls.specs.Runs.{Begins, Steps, TakesOut, SetsDraining, Changes, IsRun, last_of};
 ghost use Rattle.laws_of_calls.specs.LookedAfter.{InEveryRunWithinSteps, AllAreLookedAfter, AllHavePartners};
 ghost use Rattle.laws_of_calls.specs.Spent.{is_spent, called_at, called_in, AreWithinSteps};
 ghost use Rattle.laws_of_calls.specs.Stored.{Stored, ArePeers, HaveRanges, IsMade, IsOpened, IsSeenIn, opened_world};
@@ -39,6 +40,9 @@ pub fn stored_changes_are_the_worlds()
     // The outbox isn't seen.
     ensures outboxes { (called : List LegName) (old new : Stored) (world : World) → IsSeenIn called old world →
         TakesOut old new → IsSeenIn called new world }
+    // Nor is it whether a peer drains.
+    ensures drains { (called : List LegName) (old new : Stored) (world : World) → IsSeenIn called old world →
+        SetsDraining old new → IsSeenIn called new world }
     // Each peer stays the one of its place, and sound.
     ensures peers { (old new : Stored) → ArePeers old.peers → Changes old new → ArePeers new.peers }
     // It has the numbers that the book has for it.

@@ -19,6 +19,7 @@ use Rattle.leg_machine.specs.LegTable.{challenged, effect_at, effect_of, is_refl
 use Rattle.leg_machine.specs.Effects.{hung_up, rejected, row}
 use Rattle.leg_machine.specs.Replies.{data_of, reply_frame}
 use Rattle.leg_machine.specs.Steps.{Step, answered, asking, full_step, judged_step, no_room, not_asking, nothing_sent}
+use Rattle.leg_machine.specs.Steps.{numbered_step}
 use Rattle.leg_machine.specs.Steps.{oldest_step, prepared, replied, resend_step, taken as taken_leg}
 use Rattle.leg_machine.specs.Ticks.{Tick, due_frames, quiet, tick_step}
 use Rattle.leg_machine.specs.Tie.{TakesTurn, numbered_frame}
@@ -111,9 +112,6 @@ replied-kept leg now Silent short = omega arith
 abbrev Adds : LegState → FullFrame → Step → Type 0
 Adds leg frame s = kept s.leg ≤ kept leg + length frame.payload + 64
 
-adds-none : (leg : LegState) (frame : FullFrame) (s : Step) → kept s.leg ≡ kept (prepared leg frame) → Adds leg frame s
-adds-none leg frame s same = omega (arith, same, prepared-kept leg frame)
-
 and-left : (a b : Bool) → (a && b) ≡ true → a ≡ true
 and-left true b both = refl
 and-left false b both = cc
@@ -135,39 +133,56 @@ short-at : (stage : Stage) (leg : LegState) (frame : FullFrame) (message : Messa
 short-at stage leg frame message is =
     subst (λ (s : Stage). IsShort (effect_at s leg frame message).answer) (sym is) (challenged-short leg frame message)
 
-judged-adds : (r : Received) (leg : LegState) (frame : FullFrame) (message : Message) (now : ℕ) → leg.stage ≡ stages.Challenged
-    → Adds leg frame (judged_step r (prepared leg frame) frame message now)
-judged-adds received.Taken leg frame message now is =
-    let mid = prepared leg frame in
+-- the leg by which the number of a frame is judged has as much data, and waits as well
+record Waits (leg mid : LegState) : Type 0 where
+  same : kept mid ≡ kept leg
+  is : mid.stage ≡ stages.Challenged
+
+waits-prepared : (leg : LegState) (frame : FullFrame) → leg.stage ≡ stages.Challenged → Waits leg (prepared leg frame)
+waits-prepared leg frame is = record { same = prepared-kept leg frame; is = prepared-stage leg frame is }
+
+adds-none : (leg : LegState) (frame : FullFrame) (mid : LegState) (s : Step) → Waits leg mid → kept s.leg ≡ kept mid
+    → Adds leg frame s
+adds-none leg frame mid s waits same = omega (arith, same, waits.same)
+
+judged-adds : (r : Received) (leg : LegState) (frame : FullFrame) (mid : LegState) (message : Message) (now : ℕ)
+    → Waits leg mid → Adds leg frame (judged_step r mid frame message now)
+judged-adds received.Taken leg frame mid message now waits =
     let effect = effect_of mid frame message in
     let one = taken_leg effect mid frame message now in
     either (Adds leg frame) _ (no_room mid) (answered effect.answer one frame now effect.signal)
-    (adds-none leg frame (no_room mid) refl)
+    (adds-none leg frame mid (no_room mid) waits refl)
     (omega (
       arith,
-      prepared-kept leg frame,
+      waits.same,
       taken-kept effect mid frame message now,
-      replied-kept one now effect.answer (short-at mid.stage mid frame message (prepared-stage leg frame is)),
+      replied-kept one now effect.answer (short-at mid.stage mid frame message waits.is),
     ))
-judged-adds received.Repeat leg frame message now is =
-    adds-none leg frame (judged_step received.Repeat (prepared leg frame) frame message now) refl
-judged-adds received.Gap leg frame message now is =
-    let mid = prepared leg frame in
+judged-adds received.Repeat leg frame mid message now waits =
+    adds-none leg frame mid (judged_step received.Repeat mid frame message now) waits refl
+judged-adds received.Gap leg frame mid message now waits =
     either (Adds leg frame) (wants_vnak mid now) (asking mid frame now) (not_asking mid)
-    (adds-none leg frame (asking mid frame now) refl) (adds-none leg frame (not_asking mid) refl)
+    (adds-none leg frame mid (asking mid frame now) waits refl) (adds-none leg frame mid (not_asking mid) waits refl)
+
+numbered-adds : (leg : LegState) (frame : FullFrame) (mid : LegState) (now : ℕ) → Waits leg mid
+    → Adds leg frame (numbered_step mid frame (message_of frame.head) now)
+numbered-adds leg frame mid now waits =
+    either (Adds leg frame) (is_numbered (message_of frame.head)) _ (nothing_sent mid)
+    (judged-adds (judged_number mid.window.history frame.head.oseqno) leg frame mid (message_of frame.head) now waits)
+    (adds-none leg frame mid (nothing_sent mid) waits refl)
 
 full-adds : (leg : LegState) (frame : FullFrame) (now : ℕ) → leg.stage ≡ stages.Challenged
     → Adds leg frame (full_step leg frame now)
 full-adds leg frame now is =
     let mid = prepared leg frame in
+    let waits = waits-prepared leg frame is in
     let noted = vnak_noted mid frame.head.iseqno now in
     of-full-step (Adds leg frame) leg frame now (omega arith) (omega arith)
+    (numbered-adds leg frame leg now (record { same = refl; is = is }))
     (of-vnak-step (Adds leg frame) _ mid frame.head.iseqno now
-    (adds-none leg frame (oldest_step noted now) refl) (adds-none leg frame (resend_step noted now) refl)
-    (adds-none leg frame (nothing_sent mid) refl))
-    (either (Adds leg frame) (is_numbered (message_of frame.head)) _ (nothing_sent mid)
-    (judged-adds (judged_number mid.window.history frame.head.oseqno) leg frame (message_of frame.head) now is)
-    (adds-none leg frame (nothing_sent mid) refl))
+    (adds-none leg frame mid (oldest_step noted now) waits refl) (adds-none leg frame mid (resend_step noted now) waits refl)
+    (adds-none leg frame mid (nothing_sent mid) waits refl))
+    (numbered-adds leg frame mid now waits)
 
 room-left : (entries octets : ℕ) (a b c d : Bool)
     → (a || b || (c && d && (nat_lt 32 (entries + 4) || nat_lt 4096 (octets + 1452)))) ≡ false

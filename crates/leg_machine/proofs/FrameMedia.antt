@@ -130,5 +130,6 @@ pub frame-media : (leg : LegState) (frame : FullFrame) (now : ℕ) → IsMediaOf
 frame-media leg frame now =
     let mid = prepared leg frame in
     of-full-step (HandsUpMedia frame) leg frame now (unless-row frame leg.stage) tt
+    (numbered-media leg frame (message_of frame.head) now)
     (vnak-media (judged_acknowledgement leg.window.history frame.head.iseqno) mid frame frame.head.iseqno now)
     (numbered-media mid frame (message_of frame.head) now)

@@ -7,6 +7,7 @@ pub mod Gaps
 pub mod Growth
 pub mod Hardened
 pub mod Idle
+pub mod Named
 pub mod OneTry
 pub mod Opened
 pub mod Rows

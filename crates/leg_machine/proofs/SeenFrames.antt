@@ -266,7 +266,7 @@ frame-seen leg frame now =
       ends.0,
       ap (moved (seen leg)) ends.1,
       ends.2,
-    ) (plain leg)
+    ) (plain leg) (numbered-seen leg frame message now)
     (prepared-seen leg frame (seen vnak.leg) vnak.signal (vnak-seen judged mid frame.head.iseqno now))
     (prepared-seen leg frame (seen numbered.leg) numbered.signal (numbered-seen mid frame message now))
 

@@ -143,8 +143,10 @@ again-all leg place now final extends all = each (held_at leg.window place) refl
 oldest-sent : (leg : LegState) (now : ℕ) → SendsNumbered leg → AllSent (oldest_step leg now).leg (oldest_step leg now).replies
 oldest-sent leg now all = record {
   numbered = all;
-  sendings = again-all leg 0 now leg.window.history
-      (extends-itself leg.window.history) all;
+  sendings =
+      All-append (IsSendingOf leg.window.history) (frames_again leg 0) (frames_again leg 1)
+      (again-all leg 0 now leg.window.history (extends-itself leg.window.history) all)
+      (again-all leg 1 now leg.window.history (extends-itself leg.window.history) all);
 }
 
 pub full-sent : (leg : LegState) (frame : FullFrame) (now : ℕ) → SendsNumbered leg → let s = full_step leg frame now in
@@ -156,8 +158,11 @@ full-sent leg frame now all =
     let counted = judged_acknowledgement leg.window.history frame.head.iseqno in
     let noted = vnak_noted mid frame.head.iseqno now in
     let judged = judged_number mid.window.history frame.head.oseqno in
+    let bare = judged_number leg.window.history frame.head.oseqno in
     let Sends : Step → Type 0 = λ s. AllSent s.leg s.replies in
     of-full-step Sends leg frame now (none-sent leg (invalidated leg now).leg refl all) (stays leg all)
+    (either Sends (is_numbered message) (judged_step bare leg frame message now) (nothing_sent leg)
+    (judged-sent bare leg frame message now all) (stays leg all))
     (of-vnak-step Sends counted mid frame.head.iseqno now (oldest-sent noted now numbered) (resend-sent noted now numbered)
     (stays mid numbered))
     (either Sends (is_numbered message) (judged_step judged mid frame message now) (nothing_sent mid)

@@ -26,6 +26,10 @@ pub record LegState : Type 0 where
   pub format : Format
   -- the other side's number, once it is known
   pub remote : Option ℕ
+  -- The other side knows the leg's number: a numbered frame with it was taken.
+  pub is_named : Bool
+  -- the other side acknowledged a numbered frame
+  pub is_acknowledged : Bool
   -- the layer above isn't done with the end of the call
   pub owes : Bool
   -- to be hung up by a tick
@@ -71,6 +75,8 @@ leg_of m = record {
   stage = m.stage;
   format = m.format;
   remote = m.remote;
+  is_named = m.is_named;
+  is_acknowledged = m.is_acknowledged;
   owes = m.owes;
   doomed = m.doomed;
   cause = m.cause;

@@ -1,11 +1,11 @@
 -- The steps of a leg: the effect of a full frame, in its working order ("Message Transport").
-use Rattle.std.specs.Prelude.{ℕ, ◌&&◌, false, List, [], ◌∷◌, map, Option, None, if◌then◌else◌}
+use Rattle.std.specs.Prelude.{ℕ, ◌&&◌, false, List, [], ◌∷◌, ◌++◌, map, min, Option, None, is_some, if◌then◌else◌}
 use Rattle.iax_frames.specs.FullFrame.{FullFrame}
 use Rattle.seq_window.specs.declared.judgements.Acknowledged.{Acknowledged as Judgement}
 use Rattle.seq_window.specs.declared.judgements.Received.{Received}
 use Rattle.seq_window.specs.declared.judgements.Received.TheVariants as received
 use Rattle.seq_window.specs.Window.{held_count, held_frames, is_full, judged_number, judged_acknowledgement}
-use Rattle.seq_window.specs.Window.{after_touching, after_touching_all}
+use Rattle.seq_window.specs.Window.{after_hastening, after_touching_all}
 use Rattle.leg_machine.specs.Effects.{marked, unless_over, is_reply}
 use Rattle.leg_machine.specs.LegTable.{effect_of}
 use Rattle.leg_machine.specs.Leg.{LegState, entered, failed, resent_by, with_window}
@@ -13,7 +13,7 @@ use Rattle.call_signals.specs.Message.{message_of, is_numbered, is_inval, is_vna
 use Rattle.leg_machine.specs.Replies.{reply_frame, outgoing, next_byte, ack, vnak, sent_again}
 use Rattle.leg_machine.specs.Tries.{frames_again}
 use Rattle.leg_machine.specs.Working.{learnt, acknowledged, counts, settled, end_noted, recorded, heard, wants_vnak, asked, sent}
-use Rattle.leg_machine.specs.Working.{brings_oldest, vnak_noted, heeds_inval}
+use Rattle.leg_machine.specs.Working.{brings_nothing, brings_oldest, hastening, vnak_noted, heeds_inval, is_unaddressed, refusal}
 use Rattle.call_signals.specs.declared.effects.Answering.{Answering}
 use Rattle.call_signals.specs.declared.effects.Answering.TheVariants.{Acknowledged, Answered, Silent}
 use Rattle.call_signals.specs.declared.effects.Effect.{Effect}
@@ -50,19 +50,22 @@ resend_step leg now = record {
   signal = None;
 }
 
--- only the oldest held frame is retransmitted, and counted; that is no try either
+-- Only the two oldest held frames are retransmitted, and counted; that is no try either. They are due again 100 milliseconds
+-- after the last VNAK that brought all.
 abbrev pub oldest_step : LegState → ℕ → Step
 oldest_step leg now = record {
-  leg = resent_by (with_window leg (after_touching leg.window 0 now)) 1;
-  replies = frames_again leg 0;
+  leg = resent_by (with_window leg (after_hastening (after_hastening leg.window 0 (hastening leg now)) 1 (hastening leg now)))
+      (min 2 (held_count leg.window));
+  replies = frames_again leg 0 ++ frames_again leg 1;
   judged = judged.Unnumbered;
   signal = None;
 }
 
--- a VNAK for this number is answered
+-- A VNAK for this number is answered. One that brings nothing isn't noted.
 abbrev pub answer_step : LegState → ℕ → ℕ → Step
 answer_step leg number now =
-    if brings_oldest leg number now
+    if brings_nothing leg number now then nothing_sent leg
+    else if brings_oldest leg now
     then oldest_step (vnak_noted leg number now) now
     else resend_step (vnak_noted leg number now) now
 
@@ -158,6 +161,13 @@ message_step message leg frame now =
     then vnak_step (judged_acknowledgement leg.window.history frame.head.iseqno) (prepared leg frame) frame.head.iseqno now
     else numbered_step (prepared leg frame) frame message now
 
+-- a full frame that isn't refused: by its number alone, if it has destination 0
+abbrev pub handled_step : LegState → FullFrame → ℕ → Step
+handled_step leg frame now =
+    if is_unaddressed leg frame
+    then numbered_step leg frame (message_of frame.head) now
+    else message_step (message_of frame.head) leg frame now
+
 -- a full frame comes
 abbrev pub full_step : LegState → FullFrame → ℕ → Step
-full_step leg frame now = message_step (message_of frame.head) leg frame now
+full_step leg frame now = if is_some (refusal leg frame) then nothing_sent leg else handled_step leg frame now

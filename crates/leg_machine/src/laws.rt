@@ -1,11 +1,11 @@
 //! The laws of a leg.
 
 ghost use Rattle.std.specs.Prelude.{◌≡◌, ◌≢◌, [], ◌∷◌, ◌⊎◌, ◌↔◌, ◌≤◌, ◌<◌, ◌^◌, ◌||◌, ℕ, Bool, true, false, List, length, min};
-ghost use Rattle.std.specs.Prelude.{is_some, Option, None, Some, map};
+ghost use Rattle.std.specs.Prelude.{is_some, Option, None, Some, map, if◌then◌else◌};
 ghost use Rattle.iax_frames.specs.FullFrame.{FullFrame, spelling};
-ghost use Rattle.seq_window.specs.History.{data_octets, taken_count};
-ghost use Rattle.seq_window.specs.Window.{entry_count, held_count, held_frames};
-ghost use Rattle.seq_window.specs.declared.judgements.Received.TheVariants.{Gap};
+ghost use Rattle.seq_window.specs.History.{acked_count, data_octets, taken_count};
+ghost use Rattle.seq_window.specs.Window.{entry_count, held_count, held_frames, judged_number};
+ghost use Rattle.seq_window.specs.declared.judgements.Received.TheVariants.{Gap, Repeat};
 ghost use Rattle.leg_machine.specs.Effects.{hung_up};
 ghost use Rattle.leg_machine.specs.Leg.{LegState, end_failure, failed, is_overdue, is_record_full};
 ghost use Rattle.leg_machine.specs.LegTable.{is_reflected, waiting};
@@ -14,15 +14,17 @@ ghost use Rattle.leg_machine.specs.Openings.{open_in_step, open_out_step};
 ghost use Rattle.leg_machine.specs.OrderTable.{order_refused, order_carried, refuses_digits};
 ghost use Rattle.leg_machine.specs.Seen.{seen, kind_of, stage_ordered, fresh_leg, IsSeenFrame, IsSeenOpening, IsSeenOrder};
 ghost use Rattle.leg_machine.specs.Seen.{IsSeenTick};
-ghost use Rattle.leg_machine.specs.Replies.{vnak, sent_again};
-ghost use Rattle.leg_machine.specs.Steps.{full_step, judged_step, answer_step, inval_step, invalidated, nothing_sent};
+ghost use Rattle.leg_machine.specs.Replies.{ack, vnak, sent_again};
+ghost use Rattle.leg_machine.specs.Steps.{full_step, judged_step, answer_step, inval_step, invalidated, message_step};
+ghost use Rattle.leg_machine.specs.Steps.{nothing_sent};
 ghost use Rattle.leg_machine.specs.Ticks.{quiet, hang_up_step, tick_step, is_idle};
 ghost use Rattle.leg_machine.specs.Tie.{TakesTurn, SendsAtMostOne, TakesFirstTurn, HasSentAtMostOne, SendsNumbered, HasSent};
 ghost use Rattle.leg_machine.specs.Tie.{HasSentOrMini};
 ghost use Rattle.leg_machine.specs.Tries.{tries, NoneDue, IsFinished};
-ghost use Rattle.leg_machine.specs.Working.{heard, is_repetition, names_leg};
+ghost use Rattle.leg_machine.specs.Working.{heard, has_acknowledged, is_repetition, is_soon, is_taken, is_unanswered};
+ghost use Rattle.leg_machine.specs.Working.{names_leg, refusal};
 ghost use Rattle.call_signals.specs.Format.{has_format};
-ghost use Rattle.call_signals.specs.Message.{message_of, is_inval, is_voice_in};
+ghost use Rattle.call_signals.specs.Message.{message_of, answers_new, is_inval, is_numbered, is_voice_in};
 ghost use Rattle.call_signals.specs.declared.format.Format.{Format};
 ghost use Rattle.call_signals.specs.declared.cause.Cause.TheVariants.{CallRejected};
 ghost use Rattle.call_signals.specs.declared.message.Message.{Message};
@@ -77,21 +79,56 @@ pub fn gaps_are_answered()
         (full_step leg frame now).leg.vnak_sent ≡ None }
 {}
 
-/// The effect of a forged frame on a leg whose rules harden it. A repeated VNAK causes at most one
-/// retransmission. An INVAL that doesn't name the leg changes nothing and causes no frame.
+/// The effect of a forged frame on a leg whose rules harden it. A VNAK that repeats the one that was answered last within
+/// the lesser of `retry_ms` and 10 milliseconds changes nothing and causes no frame. Any other within 100 milliseconds of
+/// the last one that brought all held frames causes at most two. An INVAL that doesn't name the leg, or comes before any
+/// answer to its NEW, changes nothing and causes no frame. Nor does an ACCEPT, AUTHREQ, REJECT or HANGUP while the NEW isn't
+/// acknowledged.
 pub fn hardening_is_by_the_rules()
     ensures vnaks { (leg : LegState) (number : ℕ) (now : ℕ) → leg.rules.is_hardened ≡ true →
-        is_repetition leg.vnak_answered number now (min leg.rules.retry_ms 100) ≡ true →
-        length (answer_step leg number now).replies ≤ 1 }
+        is_repetition leg.vnak_answered number now (min leg.rules.retry_ms 10) ≡ true →
+        answer_step leg number now ≡ nothing_sent leg }
+    ensures moved_vnaks { (leg : LegState) (number : ℕ) (now : ℕ) → leg.rules.is_hardened ≡ true →
+        is_soon leg.vnak_answered now 100 ≡ true → length (answer_step leg number now).replies ≤ 2 }
     ensures invals { (leg : LegState) (frame : FullFrame) (now : ℕ) → leg.rules.is_hardened ≡ true →
         is_inval (message_of frame.head) ≡ true → names_leg leg frame ≡ false → full_step leg frame now ≡ nothing_sent leg }
-    // By other rules each VNAK causes all held frames to be sent again, each INVAL ends the leg, and a doomed leg accepts
-    // digits.
+    ensures early_invals { (leg : LegState) (frame : FullFrame) (now : ℕ) → leg.rules.is_hardened ≡ true →
+        is_inval (message_of frame.head) ≡ true → is_unanswered leg ≡ true → full_step leg frame now ≡ nothing_sent leg }
+    ensures early_answers { (leg : LegState) (frame : FullFrame) (now : ℕ) → leg.rules.is_hardened ≡ true →
+        leg.stage ≡ Waiting → answers_new (message_of frame.head) ≡ true → has_acknowledged leg frame ≡ false →
+        full_step leg frame now ≡ nothing_sent leg }
+    // By other rules no frame is refused but for a full record. Each VNAK causes all held frames to be sent again, each
+    // INVAL ends the leg, and a doomed leg accepts digits.
+    ensures all_frames { (leg : LegState) (frame : FullFrame) (now : ℕ) → leg.rules.is_hardened ≡ false →
+        (refusal leg frame ≡ None) × (full_step leg frame now ≡ message_step (message_of frame.head) leg frame now) }
     ensures all_vnaks { (leg : LegState) (number : ℕ) (now : ℕ) → leg.rules.is_hardened ≡ false →
         (answer_step leg number now).replies ≡ map (sent_again leg) (held_frames leg.window) }
     ensures all_invals { (leg : LegState) (frame : FullFrame) (now : ℕ) → leg.rules.is_hardened ≡ false →
         inval_step leg frame now ≡ invalidated leg now }
     ensures all_digits { (leg : LegState) → leg.rules.is_hardened ≡ false → refuses_digits leg ≡ false }
+{}
+
+/// The reach of a full frame of destination 0 at a leg whose rules harden it. A leg is named once it has taken a numbered
+/// frame with its own number, and stays so. Then such a frame changes nothing; if it repeats a numbered one, the leg
+/// acknowledges it. One that isn't numbered never changes anything, and no acknowledgement counts.
+pub fn unaddressed_frames_reach_the_unnamed()
+    ensures named { (leg : LegState) (frame : FullFrame) (now : ℕ) →
+        (full_step leg frame now).leg.is_named ≡
+        (if is_taken (full_step leg frame now).judged then names_leg leg frame || leg.is_named else leg.is_named) }
+    ensures still_named { (leg : LegState) (order : Order) (now : ℕ) →
+        (order_carried leg order now).leg.is_named ≡ leg.is_named }
+    ensures strays { (leg : LegState) (frame : FullFrame) (now : ℕ) → leg.rules.is_hardened ≡ true →
+        frame.head.destination ≡ 0 → leg.is_named ≡ true → (full_step leg frame now).leg ≡ leg }
+    ensures repeats { (leg : LegState) (frame : FullFrame) (now : ℕ) → leg.rules.is_hardened ≡ true →
+        frame.head.destination ≡ 0 → leg.is_named ≡ true →
+        ((full_step leg frame now).replies ≡ []) ⊎
+        (judged_number leg.window.history frame.head.oseqno ≡ Repeat) ×
+        ((full_step leg frame now).replies ≡ ack leg frame ∷ []) }
+    ensures unnumbered { (leg : LegState) (frame : FullFrame) (now : ℕ) → leg.rules.is_hardened ≡ true →
+        frame.head.destination ≡ 0 → is_numbered (message_of frame.head) ≡ false → full_step leg frame now ≡ nothing_sent leg }
+    ensures unacknowledged { (leg : LegState) (frame : FullFrame) (now : ℕ) → leg.rules.is_hardened ≡ true →
+        frame.head.destination ≡ 0 →
+        acked_count (full_step leg frame now).leg.window.history ≡ acked_count leg.window.history }
 {}
 
 /// The handling of challenges. If one of this exchange comes back to a hardened leg, it isn't answered: the call is hung

@@ -1,8 +1,8 @@
 //! A leg, with the calls of the layer above.
-ghost use Rattle.std.specs.Prelude.{◌≡◌, ◌==◌, ℕ, ◌+◌, ◌≤◌, ◌<◌, ◌↔◌, true, None, Some, Err, [], length, map, All, IfOk, IfErr};
+ghost use Rattle.std.specs.Prelude.{◌≡◌, ◌==◌, ◌≤◌, ◌<◌, ◌↔◌, true, None, Some, Err, [], length, map, All, IfOk, IfErr};
 ghost use Rattle.std.specs.Prelude.{OnOk, OnErr};
 ghost use Rattle.iax_frames.specs.FullFrame.{spelling};
-ghost use Rattle.leg_machine.specs.Leg.{capacity_of, is_record_full};
+ghost use Rattle.leg_machine.specs.Leg.{capacity_of};
 ghost use Rattle.leg_machine.specs.Media.{media_sent, after_media, media_frames};
 ghost use Rattle.leg_machine.specs.Openings.{open_in_step, open_out_step};
 ghost use Rattle.leg_machine.specs.OrderTable.{order_refused, media_refused, is_voice, wants_memory, IsRefusal, IsShortMedia};
@@ -15,6 +15,7 @@ ghost use Rattle.leg_machine.specs.Steps.{full_step, heard_of};
 ghost use Rattle.leg_machine.specs.Ticks.{tick_step};
 ghost use Rattle.leg_machine.specs.Tie.{TakesTurn, SendsAtMostOne, TakesFirstTurn, HasSentAtMostOne, IsSending, IsSendingOrMini};
 ghost use Rattle.leg_machine.specs.Tie.{IsLegOf};
+ghost use Rattle.leg_machine.specs.Working.{frame_refused, IsFrameRefusal};
 ghost use Rattle.call_signals.specs.declared.order.Command.TheVariants.{Media};
 ghost use Rattle.memory_requests.specs.Refused.{WasRefused};
 
@@ -142,8 +143,10 @@ impl Leg {
     /// Handles a full frame with at most 1,388 octets of data, at the moment `now`, in milliseconds ("Full Frames",
     /// "Message Transport"). The leg's frames are written to the empty list.
     ///
-    /// Refusals are checked in this order: `RecordFull` if the record is full (`is_record_full`), whatever the frame is;
-    /// `Memory` if memory was refused, which never happens with four spare entries. Then nothing is changed or written.
+    /// Refusals are checked in this order: `RecordFull` if the record is full (`is_record_full`), whatever the frame is; on
+    /// a hardened leg `Unaddressed` for a frame of destination 0 from a peer that knows the leg's number, unless it
+    /// repeats, and `NewUnacknowledged` for an answer to a NEW that isn't acknowledged; `Memory` if memory was refused,
+    /// which never happens with four spare entries. Then nothing is changed or written.
     pub fn full_into(
         &mut self,
         frame: &Full,
@@ -161,14 +164,15 @@ impl Leg {
         ensures sendings { OnOk result (All (IsSending self.new.state) replies.new) }
         ensures refines_abstract_leg { IfOk result (λ heard. IsSeenFrame (seen self.old.state) (seen self.new.state)
             heard.signal) }
-        ensures record_full { (result ≡ Err StepError.RecordFull) ↔ (is_record_full self.old.state ≡ true) }
+        ensures unrefused { OnOk result (frame_refused self.old.state frame.now ≡ None) }
+        ensures refused { IfErr result (IsFrameRefusal (frame_refused self.old.state frame.now)) }
         ensures memory { result ≡ Err StepError.Memory → self.old.spare < 4 }
         ensures err { OnErr result (self.new ≡ self.old) }
         ensures none_sent { OnErr result (replies.new ≡ replies.old) }
         ensures capacity { capacity_of self.old ≤ capacity_of self.new }
         ensures no_memory { result ≡ Err StepError.Memory → WasRefused }
     {
-        self.machine.room_for_frame()?;
+        self.machine.room_for_frame(frame)?;
         Ok(self.machine.full(frame, now, replies))
     }
 

@@ -2,12 +2,12 @@
 ghost use Rattle.std.specs.Prelude.{◌≡◌, ℕ, ◌+◌, ◌^◌, ◌<◌, ◌≤◌, true, false, length, option_copied, is_some, if◌then◌else◌};
 ghost use Rattle.std.specs.Prelude.{IfSome};
 ghost use Rattle.seq_window.specs.History.{IsLegal};
-ghost use Rattle.leg_machine.specs.Leg.{is_record_full};
 ghost use Rattle.leg_machine.specs.Media.{accepts_media};
 ghost use Rattle.leg_machine.specs.Onward.{onward_of};
 ghost use Rattle.leg_machine.specs.Openings.{opening_data, new_data, called_of, calling_of, caller_of, formats_of};
 ghost use Rattle.leg_machine.specs.Ticks.{is_idle};
 ghost use Rattle.leg_machine.specs.Tie.{SendsNumbered};
+ghost use Rattle.leg_machine.specs.Working.{frame_refused};
 ghost use Rattle.call_signals.specs.NewElements.{named, new_elements};
 ghost use Rattle.call_signals.specs.declared.signal.Signal.TheVariants.{Offered};
 
@@ -17,9 +17,9 @@ use crate::machine::Machine;
 use call_signals::openings::offered_formats;
 use call_signals::{
     Caller, Cause, ElementText, Failure, Format, Formats, Indication, MediaIn, MediaSpan, Moments,
-    NewElements, Onward, Signal, Stage,
+    NewElements, Onward, Signal, Stage, StepError,
 };
-use iax_frames::CallNumber;
+use iax_frames::{CallNumber, Full};
 use info_elements::{CALLED_NUMBER, CALLING_NUMBER, last_in};
 use seq_window::{EntryView, Record, Window};
 
@@ -149,14 +149,16 @@ impl Leg {
         &self.machine.window
     }
 
-    /// Returns whether the record has no room for one more full frame and the entries that follow from it. It has none if
+    /// Returns the refusal of a full frame, memory aside; none if the leg handles it ("Full Frames").
+    ///
+    /// `RecordFull` comes first. The record has no room for one more full frame and the entries that follow from it if
     /// fewer than four entries are free, or fewer than 2,776 octets of data of those that the peer's rules allow. A leg
     /// that waits for the answer to its challenge has lower limits: one more frame must not bring it past 32 entries or
-    /// 4,096 octets of data.
-    pub fn is_record_full(&self) -> bool
-        ensures { result ≡ is_record_full self.now.state }
+    /// 4,096 octets of data. On a hardened leg `Unaddressed` and `NewUnacknowledged` follow, as `full_into` says.
+    pub fn frame_refused(&self, frame: &Full) -> Option<StepError>
+        ensures { result ≡ frame_refused self.now.state frame.now }
     {
-        self.machine.is_record_full()
+        self.machine.frame_refused(frame)
     }
 
     /// Returns the number of entries that the record takes without further memory.
@@ -190,6 +192,8 @@ impl Leg {
             pinged: _,
             vnak_sent: _,
             vnak_answered: _,
+            is_named: _,
+            is_acknowledged: _,
             failure: _,
             resent: _,
             moments: _,

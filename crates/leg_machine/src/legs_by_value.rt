@@ -3,7 +3,7 @@ ghost use Rattle.std.specs.Prelude.{◌≡◌, ◌==◌, ◌≤◌, ◌<◌, ◌
 ghost use Rattle.std.specs.Prelude.{OnOk, OnErr};
 ghost use Rattle.std.specs.Option.{ForSome};
 ghost use Rattle.iax_frames.specs.FullFrame.{spelling};
-ghost use Rattle.leg_machine.specs.Leg.{capacity_of, is_record_full};
+ghost use Rattle.leg_machine.specs.Leg.{capacity_of};
 ghost use Rattle.leg_machine.specs.Onward.{outcome_of, order_outcome, HandsUp};
 ghost use Rattle.leg_machine.specs.Openings.{open_in_step, open_out_step};
 ghost use Rattle.leg_machine.specs.OrderTable.{order_refused, wants_memory, IsRefusal, IsShortMedia, order_carried};
@@ -13,6 +13,7 @@ ghost use Rattle.leg_machine.specs.Seen.{seen, kind_of, stage_ordered, fresh_leg
 ghost use Rattle.leg_machine.specs.Seen.{IsSeenTick};
 ghost use Rattle.leg_machine.specs.Steps.{full_step};
 ghost use Rattle.leg_machine.specs.Ticks.{tick_step};
+ghost use Rattle.leg_machine.specs.Working.{frame_refused, IsFrameRefusal};
 ghost use Rattle.leg_machine.specs.Tie.{TakesTurn, SendsAtMostOne, TakesFirstTurn, HasSentAtMostOne, IsSending, IsSendingOrMini};
 ghost use Rattle.call_signals.specs.declared.stage.Stage.TheVariants as stages;
 ghost use Rattle.memory_requests.specs.Refused.{WasRefused};
@@ -131,7 +132,7 @@ impl Leg {
 
     /// Handles a full frame: `full_into` with its datagrams in the outcome.
     ///
-    /// Refusals are checked in this order: `RecordFull` if the record is full (`is_record_full`), then `Memory`.
+    /// Refusals are checked in this order: `RecordFull`, `Unaddressed`, `NewUnacknowledged`, `Memory`.
     pub fn full(&mut self, frame: &Full, now: u64) -> Result<Outcome, StepError>
         requires { length frame.now.payload ≤ 1388 }
         ensures leg { OnOk result (self.new.state ≡ (full_step self.old.state frame.now now).leg) }
@@ -140,7 +141,8 @@ impl Leg {
         ensures sendings { IfOk result (λ outcome. All (IsSending self.new.state) outcome.replies) }
         ensures refines_abstract_leg { IfOk result (λ outcome.
             HandsUp self.new.state outcome.onward (IsSeenFrame (seen self.old.state) (seen self.new.state))) }
-        ensures record_full { (result ≡ Err StepError.RecordFull) ↔ (is_record_full self.old.state ≡ true) }
+        ensures unrefused { OnOk result (frame_refused self.old.state frame.now ≡ None) }
+        ensures refused { IfErr result (IsFrameRefusal (frame_refused self.old.state frame.now)) }
         ensures memory { result ≡ Err StepError.Memory → self.old.spare < 4 }
         ensures err { OnErr result (self.new ≡ self.old) }
         ensures capacity { capacity_of self.old ≤ capacity_of self.new }

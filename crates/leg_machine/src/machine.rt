@@ -27,6 +27,8 @@ pub struct AnsweredVnak {
     pub number: u8,
     /// The moment at which it came, in milliseconds.
     pub at: u64,
+    /// The moment at which the last one came that brought all held frames, in milliseconds.
+    pub all_at: u64,
 }
 
 /// A leg's fields. Its steps never fail, because the caller of one has reserved room for its entries.
@@ -38,6 +40,8 @@ pub struct Machine {
     pub stage: Stage,
     pub format: Format,
     pub remote: Option<CallNumber>,
+    pub is_named: bool,
+    pub is_acknowledged: bool,
     pub owes: bool,
     pub doomed: bool,
     pub cause: Cause,
@@ -125,6 +129,8 @@ impl Machine {
             stage: Stage::Waiting,
             format,
             remote: None,
+            is_named: false,
+            is_acknowledged: false,
             owes: false,
             doomed: false,
             cause: Cause::NormalClearing,
@@ -233,8 +239,8 @@ impl Machine {
         }
     }
 
-    /// Judges the acknowledgement of a frame, ISeqno, and returns whether it counts ("Message Transport"). There is room
-    /// for four entries.
+    /// Judges the acknowledgement of a frame, ISeqno, and returns whether it counts ("Message Transport"). Notes whether it
+    /// removes held frames. There is room for four entries.
     pub fn acknowledge(&mut self, iseqno: u8) -> bool
         requires { HasRoom 4 self.old }
         ensures leg { leg_of self.new ≡ steps.acknowledged (leg_of self.old) iseqno }
@@ -242,11 +248,17 @@ impl Machine {
         ensures counts { result ≡ steps.counts (judged_acknowledgement self.old.window.state.history iseqno) }
         ensures capacity { capacity_of (whole_leg self.old) ≤ capacity_of (whole_leg self.new) }
     {
-        matches!(self.window.acknowledge(iseqno), Ok(Acknowledged::Acked(_)))
+        match self.window.acknowledge(iseqno) {
+            Ok(Acknowledged::Acked(count)) => {
+                self.is_acknowledged = 0 < count || self.is_acknowledged;
+                true
+            }
+            _ => false,
+        }
     }
 
     /// Records the next frame, of at most 1,388 octets of data; there is room for three entries. The next gap is then
-    /// another one than before.
+    /// another one than before. With the leg's number the frame shows that the other side knows it.
     pub fn record(&mut self, frame: &Full)
         requires room { HasRoom 3 self.old }
         requires short { length frame.now.payload ≤ 1388 }
@@ -256,6 +268,7 @@ impl Machine {
     {
         let _ = self.window.receive(frame.oseqno(), stored(frame));
         self.vnak_sent = None;
+        self.is_named = self.names_leg(frame) || self.is_named;
     }
 
     /// Notes the format of a voice frame that was taken. Other messages change nothing. The call's own format may still

@@ -1,11 +1,13 @@
 //! The room of a leg's record ("Message Transport"), and the time that the leg waits for the answer to its challenge.
-ghost use Rattle.std.specs.Prelude.{◌≡◌, ◌<◌, ◌≤◌, ◌↔◌, true, Err, OnOk, OnErr};
+ghost use Rattle.std.specs.Prelude.{◌≡◌, ◌<◌, ◌≤◌, None, Err, IfErr, OnOk, OnErr};
 ghost use Rattle.leg_machine.specs.Leg.{is_record_full, is_short_of_entries, is_short_of_octets, is_challenged};
 ghost use Rattle.leg_machine.specs.Leg.{has_heard_enough, is_overdue};
+ghost use Rattle.leg_machine.specs.Working.{frame_refused, IsFrameRefusal};
 ghost use Rattle.memory_requests.specs.Refused.{WasRefused};
 
 use crate::machine::Machine;
 use call_signals::{Stage, StepError};
+use iax_frames::Full;
 
 // The greatest length of a full frame's data, in octets.
 const MAX_PAYLOAD: usize = 1388;
@@ -75,21 +77,33 @@ impl Machine {
         }
     }
 
+    /// Returns the refusal of a full frame, memory aside: `RecordFull` if the record is full, then `Unaddressed` and
+    /// `NewUnacknowledged`.
+    pub fn frame_refused(&self, frame: &Full) -> Option<StepError>
+        ensures { result ≡ frame_refused (leg_of self.now) frame.now }
+    {
+        if self.is_record_full() {
+            return Some(StepError::RecordFull);
+        }
+        self.refusal(frame)
+    }
+
     /// Makes room for the entries that a full frame can add to the record: four.
     ///
-    /// Refusals are checked in this order: `RecordFull` if the record is full, `Memory` if memory was refused, which never
-    /// happens with four spare entries. Then nothing is changed.
-    pub fn room_for_frame(&mut self) -> Result<(), StepError>
+    /// Refusals are those of `frame_refused`, then `Memory` if memory was refused, which never happens with four spare
+    /// entries. Then nothing is changed.
+    pub fn room_for_frame(&mut self, frame: &Full) -> Result<(), StepError>
         ensures leg { leg_of self.new ≡ leg_of self.old }
         ensures room { OnOk result (HasRoom 4 self.new) }
-        ensures record_full { (result ≡ Err StepError.RecordFull) ↔ (is_record_full (leg_of self.old) ≡ true) }
+        ensures unrefused { OnOk result (frame_refused (leg_of self.old) frame.now ≡ None) }
+        ensures refused { IfErr result (IsFrameRefusal (frame_refused (leg_of self.old) frame.now)) }
         ensures memory { result ≡ Err StepError.Memory → self.old.window.spare < 4 }
         ensures err { OnErr result (self.new ≡ self.old) }
         ensures capacity { capacity_of (whole_leg self.old) ≤ capacity_of (whole_leg self.new) }
         ensures no_memory { result ≡ Err StepError.Memory → WasRefused }
     {
-        if self.is_record_full() {
-            return Err(StepError::RecordFull);
+        if let Some(error) = self.frame_refused(frame) {
+            return Err(error);
         }
         self.window.reserve(4)?;
         Ok(())

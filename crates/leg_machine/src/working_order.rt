@@ -4,13 +4,17 @@ ghost use Rattle.iax_frames.specs.FullFrame.{spelling};
 ghost use Rattle.seq_window.specs.Window.{held_count, judged_number, judged_acknowledgement};
 ghost use Rattle.leg_machine.specs.Effects.{is_reply, marked};
 ghost use Rattle.leg_machine.specs.Steps as steps;
-ghost use Rattle.leg_machine.specs.Working.{counts, wants_vnak, names_leg, heeds_inval};
+ghost use Rattle.leg_machine.specs.Working as working;
+ghost use Rattle.leg_machine.specs.Working.{counts, wants_vnak, heeds_inval, is_unaddressed, handles_unaddressed};
+ghost use Rattle.leg_machine.specs.Working.{has_acknowledged, is_early, refusal};
 
 use crate::machine::Machine;
 use call_signals::effects::unless_over;
-use call_signals::{Answering, Effect, Failure, Heard, Judged, Mark, Message, Replies, Signal};
+use call_signals::{
+    Answering, Effect, Failure, Heard, Judged, Mark, Message, Replies, Signal, StepError,
+};
 use iax_frames::Full;
-use seq_window::Received;
+use seq_window::{Acknowledged, Received};
 
 impl Machine {
     ghost use Rattle.leg_machine.specs.Leg.{leg_of, whole_leg, capacity_of, HasRoom};
@@ -162,21 +166,23 @@ impl Machine {
         }
     }
 
-    // Returns whether a frame has the leg's number, and that of the other side, if that is known.
-    fn names_leg(&self, frame: &Full) -> bool
-        ensures { result ≡ names_leg (leg_of self.now) frame.now }
+    /// Returns whether a frame has the leg's number, and that of the other side, if that is known.
+    pub fn names_leg(&self, frame: &Full) -> bool
+        ensures { result ≡ working.names_leg (leg_of self.now) frame.now }
     {
         let is_to = frame.destination() == self.number.get();
         let is_from = self.remote.unwrap_or(frame.source()) == frame.source();
         is_to && is_from
     }
 
-    // Returns whether an INVAL has an effect: a hardened leg heeds only one that names it.
+    // Returns whether an INVAL has an effect. A hardened leg heeds only one that names it, and none as long as it waits for
+    // the first answer to its NEW: no honest peer answers a NEW by an INVAL.
     fn heeds_inval(&self, frame: &Full) -> bool
         ensures { result ≡ heeds_inval (leg_of self.now) frame.now }
     {
         let names_leg = self.names_leg(frame);
-        !self.rules.is_hardened || names_leg
+        let is_unanswered = self.stage.is_waiting() && self.remote.is_none();
+        !self.rules.is_hardened || (names_leg && !is_unanswered)
     }
 
     // Handles an INVAL, which is never answered.
@@ -236,24 +242,22 @@ impl Machine {
         counts
     }
 
-    /// Handles a full frame at the moment `now`, in milliseconds, with at most 1,388 octets of data. There is room for the
-    /// entries that it can add to the record. The leg's frames are written to the empty list.
-    pub fn full(&mut self, frame: &Full, now: u64, outs: &mut Replies) -> Heard
+    // Handles a full frame that has a destination, or comes to a leg that isn't hardened.
+    fn addressed(&mut self, frame: &Full, message: &Message, now: u64, outs: &mut Replies) -> Heard
         requires room { HasRoom 4 self.old }
         requires short { length frame.now.payload ≤ 1388 }
         requires empty { outs.old ≡ [] }
-        ensures leg { leg_of self.new ≡ (steps.full_step (leg_of self.old) frame.now now).leg }
-        ensures replies { outs.new ≡ map spelling (steps.full_step (leg_of self.old) frame.now now).replies }
-        ensures heard { result ≡ steps.heard_of (steps.full_step (leg_of self.old) frame.now now) }
+        ensures leg { leg_of self.new ≡ (steps.message_step message.now (leg_of self.old) frame.now now).leg }
+        ensures replies { outs.new ≡ map spelling (steps.message_step message.now (leg_of self.old) frame.now now).replies }
+        ensures heard { result ≡ steps.heard_of (steps.message_step message.now (leg_of self.old) frame.now now) }
         ensures capacity { capacity_of (whole_leg self.old) ≤ capacity_of (whole_leg self.new) }
     {
-        let message = Message::of(frame);
         if message.is_inval() {
             return self.invalidate(frame, now);
         }
         let counts = self.prepare(frame);
         if !message.is_vnak() {
-            return self.numbered(frame, &message, now, outs);
+            return self.numbered(frame, message, now, outs);
         }
         if counts {
             return self.answer_vnak(frame.iseqno(), now, outs);
@@ -262,5 +266,81 @@ impl Machine {
             judged: Judged::Unnumbered,
             signal: None,
         }
+    }
+
+    // Returns whether a frame has destination 0 and the leg is hardened.
+    fn is_unaddressed(&self, frame: &Full) -> bool
+        ensures { result ≡ is_unaddressed (leg_of self.now) frame.now }
+    {
+        self.rules.is_hardened && frame.destination().get() == 0
+    }
+
+    // Returns whether the leg handles a frame of destination 0: a numbered one as long as the other side needn't know the
+    // leg's number, and later one that repeats.
+    fn handles_unaddressed(&self, frame: &Full) -> bool
+        ensures { result ≡ handles_unaddressed (leg_of self.now) frame.now }
+    {
+        let repeats = matches!(self.judged(frame), Received::Repeat);
+        Message::of(frame).is_numbered() && (!self.is_named || repeats)
+    }
+
+    // Returns whether the other side has acknowledged the leg's first frame, by this frame or by one before it.
+    fn has_acknowledged(&self, frame: &Full) -> bool
+        ensures { result ≡ has_acknowledged (leg_of self.now) frame.now }
+    {
+        let removes = removes(self.window.judge_acknowledgement(frame.iseqno()));
+        self.is_acknowledged || (!self.is_unaddressed(frame) && removes)
+    }
+
+    // Returns whether a frame answers the NEW of a hardened leg that waits, and the NEW isn't acknowledged.
+    fn is_early(&self, frame: &Full) -> bool
+        ensures { result ≡ is_early (leg_of self.now) frame.now }
+    {
+        if !self.rules.is_hardened || !self.stage.is_waiting() {
+            return false;
+        }
+        Message::of(frame).answers_new() && !self.has_acknowledged(frame)
+    }
+
+    /// Returns the refusal of a frame by its destination and its acknowledgement: `Unaddressed`, then `NewUnacknowledged`.
+    /// Only a hardened leg refuses so.
+    pub fn refusal(&self, frame: &Full) -> Option<StepError>
+        ensures { result ≡ refusal (leg_of self.now) frame.now }
+    {
+        if self.is_unaddressed(frame) && !self.handles_unaddressed(frame) {
+            return Some(StepError::Unaddressed);
+        }
+        if self.is_early(frame) {
+            return Some(StepError::NewUnacknowledged);
+        }
+        None
+    }
+
+    /// Handles a full frame that isn't refused, at the moment `now`, in milliseconds, with at most 1,388 octets of data.
+    /// There is room for the entries that it can add to the record. The leg's frames are written to the empty list.
+    pub fn full(&mut self, frame: &Full, now: u64, outs: &mut Replies) -> Heard
+        requires room { HasRoom 4 self.old }
+        requires short { length frame.now.payload ≤ 1388 }
+        requires empty { outs.old ≡ [] }
+        ensures leg { leg_of self.new ≡ (steps.handled_step (leg_of self.old) frame.now now).leg }
+        ensures replies { outs.new ≡ map spelling (steps.handled_step (leg_of self.old) frame.now now).replies }
+        ensures heard { result ≡ steps.heard_of (steps.handled_step (leg_of self.old) frame.now now) }
+        ensures capacity { capacity_of (whole_leg self.old) ≤ capacity_of (whole_leg self.new) }
+    {
+        let message = Message::of(frame);
+        if self.is_unaddressed(frame) {
+            return self.numbered(frame, &message, now, outs);
+        }
+        self.addressed(frame, &message, now, outs)
+    }
+}
+
+// Returns whether an acknowledgement removes held frames.
+fn removes(judged: Acknowledged) -> bool
+    ensures { result ≡ working.removes judged }
+{
+    match judged {
+        Acknowledged::Acked(count) => 0 < count,
+        Acknowledged::Ignored => false,
     }
 }

@@ -72,9 +72,10 @@ impl Onwards {
         self.offers.clear();
     }
 
-    /// Reserves room for `signals` more signals, and for an offer. Returns `Err` only if memory was refused; the signals
-    /// and the offer stay as they are.
+    /// Reserves room for `signals` more signals, 0 ..= 512, as many as a trunk frame has entries, and for an offer. Returns
+    /// `Err` only if memory was refused; the signals and the offer stay as they are.
     pub fn reserve(&mut self, signals: usize) -> Result<(), AllocError>
+        requires few { signals ≤ 512 }
         ensures signals { self.new.signals ≡ self.old.signals }
         ensures offer { self.new.offer ≡ self.old.offer }
         ensures room { OnOk result (signals ≤ self.new.room) }

@@ -1,4 +1,5 @@
 -- A step of a leg keeps the leg's rules and its numbers: its own always, the other side's once it is known.
+use Rattle.std.specs.Prelude.{is_some}
 use Rattle.std.proofs.Common.{◌≡◌, ℕ, zero, suc, ◌⊎◌, inl, inr, Bool, true, false, ◌&&◌, ◌==◌, cond, if◌then◌else◌, List, Option}
 use Rattle.std.proofs.Common.{Some, None, unwrap_or, refl, ◌∙◌}
 use Rattle.iax_frames.specs.FullFrame.{FullFrame}
@@ -16,12 +17,12 @@ use Rattle.leg_machine.specs.Message.{message_of, is_inval, is_vnak}
 use Rattle.leg_machine.specs.OrderTable.{order_row, row_carried, order_carried}
 use Rattle.leg_machine.specs.Steps.{Step, nothing_sent, answer_step, oldest_step, invalidated, resend_step, taken, replied}
 use Rattle.leg_machine.specs.Steps.{taken_step, asking, not_asking, judged_step, numbered_step, vnak_step, prepared, inval_step}
-use Rattle.leg_machine.specs.Steps.{message_step, full_step}
+use Rattle.leg_machine.specs.Steps.{message_step, handled_step, full_step}
 use Rattle.leg_machine.specs.Stage.{is_closing, is_ended}
 use Rattle.leg_machine.specs.Ticks.{Tick, quiet, hang_up_step, ping_step, last_step, due_frames, tick_step}
 use Rattle.leg_machine.specs.Tries.{Tried, tries, one_try, after_try}
-use Rattle.leg_machine.specs.Working.{learnt, settled, acknowledged, counts, wants_vnak, end_noted, brings_oldest, vnak_noted}
-use Rattle.leg_machine.specs.Working.{heeds_inval}
+use Rattle.leg_machine.specs.Working.{learnt, settled, acknowledged, counts, wants_vnak, end_noted, brings_nothing, brings_oldest}
+use Rattle.leg_machine.specs.Working.{vnak_noted, heeds_inval, is_unaddressed, refusal}
 use Rattle.call_signals.specs.declared.effects.Answering.{Answering}
 use Rattle.call_signals.specs.declared.effects.Answering.TheVariants.{Acknowledged as Acks, Answered, Silent}
 use Rattle.call_signals.specs.declared.effects.Effect.{Effect}
@@ -139,9 +140,11 @@ same_vnak : (judged : Acknowledged) (leg : LegState) (number now : ℕ) → IsSa
 same_vnak judged leg number now =
     let noted = vnak_noted leg number now in
     chosen (λ (s : Step). IsSameCall leg s.leg) (counts judged) (answer_step leg number now) (nothing_sent leg)
-    (chosen (λ (s : Step). IsSameCall leg s.leg) (brings_oldest leg number now) (oldest_step noted now) (resend_step noted now)
+    (chosen (λ (s : Step). IsSameCall leg s.leg) (brings_nothing leg number now) (nothing_sent leg)
+    (cond (brings_oldest leg now) (oldest_step noted now) (resend_step noted now)) (same leg)
+    (chosen (λ (s : Step). IsSameCall leg s.leg) (brings_oldest leg now) (oldest_step noted now) (resend_step noted now)
     (record { number = refl; remote = refl; ruled = record { rules = refl; width = refl; limit = refl } })
-    (record { number = refl; remote = refl; ruled = record { rules = refl; width = refl; limit = refl } }))
+    (record { number = refl; remote = refl; ruled = record { rules = refl; width = refl; limit = refl } })))
     (same leg)
 
 same_settled : (leg : LegState) → IsSameCall leg (settled leg)
@@ -197,7 +200,16 @@ message_learns message leg frame now =
     })
 
 pub full_learns : (leg : LegState) (frame : FullFrame) (now : ℕ) → MayLearn frame.head.source leg (full_step leg frame now).leg
-full_learns leg frame now = message_learns (message_of frame.head) leg frame now
+full_learns leg frame now =
+    let message = message_of frame.head in
+    let bare = numbered_step leg frame message now in
+    let as_before = same_numbered leg frame message now in
+    let Learns : Step → Type 0 = λ s. MayLearn frame.head.source leg s.leg in
+    chosen Learns (is_some (refusal leg frame)) (nothing_sent leg) (handled_step leg frame now)
+    (record { number = refl; remote = inl refl; ruled = record { rules = refl; width = refl; limit = refl } })
+    (chosen Learns (is_unaddressed leg frame) bare (message_step message leg frame now)
+    (record { number = as_before.number; remote = inl as_before.remote; ruled = as_before.ruled })
+    (message_learns message leg frame now))
 
 -- ---- orders
 

@@ -1,3 +1,4 @@
+pub mod Challenges
 pub mod Finding
 pub mod Legs
 pub mod LegsInside

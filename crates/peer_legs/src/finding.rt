@@ -1,6 +1,6 @@
 //! Finds the leg that gets a full frame, and checks whether names are free ("Full Frames", "Call Setup").
 ghost use Rattle.std.specs.Prelude.{◌≡◌, ◌≤◌, ◌↔◌, true, None, Some, IfSome, IsNone, IsSome, option_copied};
-ghost use Rattle.leg_machine.specs.Leg.{is_record_full};
+ghost use Rattle.leg_machine.specs.Working.{frame_refused};
 ghost use Rattle.peer_legs.specs.Finding.{can_reach, is_reached, found, first_leg, next_leg, AreFreeFrom, AreFreeBetween};
 ghost use Rattle.peer_legs.specs.Legs.{NamedLeg as NamedLegValue, AreLegs, is_free_name, leg_at};
 
@@ -8,6 +8,7 @@ use crate::named_leg::NamedLeg;
 use crate::peer_legs::PeerLegs;
 use call_book::LegName;
 use iax_frames::{CallNumber, Full};
+use leg_machine::StepError;
 
 // The first of these places that has a leg.
 fn first_leg(places: &[Option<NamedLeg>]) -> Option<&NamedLeg>
@@ -32,12 +33,13 @@ impl PeerLegs {
         }
     }
 
-    /// Returns whether the record of the leg with this local number is full.
-    pub fn is_record_full(&self, number: u16) -> bool
+    /// Returns the refusal of a full frame by the leg with this local number, memory aside (`Leg::frame_refused`).
+    pub fn frame_refused(&self, number: u16, frame: &Full) -> Option<StepError>
         requires { IsSome (leg_at self.now number) }
-        ensures { (named : NamedLegValue) → leg_at self.now number ≡ Some named → result ≡ is_record_full named.leg }
+        ensures { (named : NamedLegValue) → leg_at self.now number ≡ Some named →
+            result ≡ frame_refused named.leg frame.now }
     {
-        self.get(number).unwrap().leg().is_record_full()
+        self.get(number).unwrap().leg().frame_refused(frame)
     }
 
     /// Returns the local number of the leg that gets a full frame, or `None` if no leg is found ("Full Frames", "Call

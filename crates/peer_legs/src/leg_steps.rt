@@ -1,17 +1,17 @@
 //! The steps of one of a peer's legs: a full frame, an order, media, or a tick.
 ghost use Rattle.std.specs.Option.{ForSome};
-ghost use Rattle.std.specs.Prelude.{◌≡◌, ◌==◌, ◌≤◌, ◌↔◌, length, map};
-ghost use Rattle.std.specs.Prelude.{slice_get, slice_set, true, Some, Err, [], IfNone, IfOk};
+ghost use Rattle.std.specs.Prelude.{◌≡◌, ◌==◌, ◌≤◌, length, map};
+ghost use Rattle.std.specs.Prelude.{slice_get, slice_set, true, None, Some, Err, [], IfErr, IfNone, IfOk};
 ghost use Rattle.std.specs.Prelude.{IsSome, OnErr, OnOk};
 ghost use Rattle.call_signals.specs.declared.rules.PeerRules.{PeerRules};
 ghost use Rattle.iax_frames.specs.FullFrame.{spelling};
-ghost use Rattle.leg_machine.specs.Leg.{is_record_full};
 ghost use Rattle.leg_machine.specs.Media.{media_sent, after_media, media_frames};
 ghost use Rattle.leg_machine.specs.OrderTable.{order_refused, media_refused, is_voice, wants_memory, IsShortMedia};
 ghost use Rattle.leg_machine.specs.OrderTable.{order_carried};
 ghost use Rattle.leg_machine.specs.Steps.{full_step, heard_of};
 ghost use Rattle.leg_machine.specs.Ticks.{tick_step};
 ghost use Rattle.leg_machine.specs.Tie.{TakesTurn, SendsAtMostOne};
+ghost use Rattle.leg_machine.specs.Working.{frame_refused, IsFrameRefusal};
 ghost use Rattle.peer_legs.specs.Finding.{can_reach};
 ghost use Rattle.peer_legs.specs.Legs.{NamedLeg as NamedLegValue};
 ghost use Rattle.peer_legs.specs.Steps.{IsAnswer, IsStep};
@@ -29,8 +29,8 @@ impl PeerLegs {
     /// it. The leg keeps its number. The frame's source can reach that leg, and its data has at most 1,388 octets. The
     /// leg's frames are written to the empty list.
     ///
-    /// Refusals are checked in this order: `RecordFull` if the leg's record is full, whatever the frame is, then `Memory`.
-    /// Then the legs are as before.
+    /// Refusals are checked in this order: `RecordFull`, `Unaddressed`, `NewUnacknowledged`, `Memory`. Then the legs are as
+    /// before.
     pub fn full(
         &mut self,
         number: u16,
@@ -52,8 +52,10 @@ impl PeerLegs {
         ensures kept { OnOk result (IsSome (leg_at self.new number)) }
         ensures there { OnOk result ((named : NamedLegValue) → leg_at self.old number ≡ Some named
             → leg_at self.new number ≡ Some (record { name = named.name; leg = (full_step named.leg frame.now now).leg })) }
-        ensures record_full { (named : NamedLegValue) → leg_at self.old number ≡ Some named →
-            (result ≡ Err StepError.RecordFull) ↔ (is_record_full named.leg ≡ true) }
+        ensures unrefused { (named : NamedLegValue) → leg_at self.old number ≡ Some named →
+            OnOk result (frame_refused named.leg frame.now ≡ None) }
+        ensures refused { (named : NamedLegValue) → leg_at self.old number ≡ Some named →
+            IfErr result (IsFrameRefusal (frame_refused named.leg frame.now)) }
         ensures none_sent { OnErr result (replies.new ≡ replies.old) }
         ensures no_memory { result ≡ Err StepError.Memory → WasRefused }
     {

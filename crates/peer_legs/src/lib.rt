@@ -1,6 +1,7 @@
 //! The legs of a peer, each found by its local number and by its remote number.
 #![tactic(auto)]
 
+mod challenges;
 mod finding;
 mod leg_steps;
 mod named_leg;

@@ -46,6 +46,7 @@ impl Model for PeerLegs {
 
 // Returns `count` places without a leg.
 fn no_legs(alloc: Global, count: u16) -> Result<Vec<Option<NamedLeg>>, AllocError>
+    requires few { count ≤ 512 }
     ensures places { IfOk result (λ places. places.items ≡ replicate count None) }
     ensures no_memory { OnErr result WasRefused }
 {
@@ -180,10 +181,12 @@ impl PeerLegs {
         self.by_remote.get(remote)
     }
 
-    // Returns the place of a local number that a leg has.
-    pub(crate) fn place_of(&self, number: u16) -> usize
+    /// Returns the place of a local number that a leg has among the peer's, 0 ..= 511.
+    pub fn place_of(&self, number: u16) -> usize
         requires { IsSome (leg_at self.now number) }
+        ensures from { self.now.first ≤ number }
         ensures place { result ≡ number - self.now.first }
+        ensures few { result < 512 }
         ensures within { result < length self.now.places }
         ensures leg { filled (slice_get self.now.places result) ≡ leg_at self.now number }
     {

@@ -1,6 +1,6 @@
 //! Local numbers by remote number, in an array.
 ghost use Rattle.std.specs.Option.{ForSome};
-ghost use Rattle.std.specs.Prelude.{◌≡◌, ◌<◌, IfOk, OnErr, Some, length, slice_get};
+ghost use Rattle.std.specs.Prelude.{◌≡◌, ◌^◌, ◌<◌, ◌≤◌, IfOk, OnErr, Some, length, slice_get};
 ghost use Rattle.peer_legs.specs.RemoteNumbers.{AreNone, noted};
 ghost use Rattle.memory_requests.specs.Refused.{WasRefused};
 
@@ -30,6 +30,7 @@ impl Model for RemoteIndex {
 
 // Returns `places` places without a number.
 fn no_numbers(alloc: Global, places: usize) -> Result<Vec<Option<u16>>, AllocError>
+    requires few { places ≤ 2 ^ 15 }
     ensures len { IfOk result (λ numbers. length numbers.items ≡ places) }
     ensures none { IfOk result (λ numbers. AreNone numbers.items) }
     ensures no_memory { OnErr result WasRefused }

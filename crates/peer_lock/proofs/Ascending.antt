@@ -28,6 +28,7 @@ use Rattle.peer_lock.specs.CarriedMedia.{Ascends, HasNoSpan}
 use Rattle.peer_lock.specs.Delivery.{Delivery, Gets, NeedsNumber, NoCall, NoToken, Pongs, Reaches, delivery}
 use Rattle.peer_lock.specs.Openings.{opens_in}
 use Rattle.peer_lock.specs.Peer.{PeerView, handed_up}
+use Rattle.peer_lock.specs.TrunkEntries.{taken_by, taker}
 use Rattle.peer_lock.proofs.Choices.{either}
 use Rattle.seq_window.specs.Window.{is_full}
 
@@ -96,15 +97,16 @@ delivered_ascends law first peer frame now (Gets answer) = tt
 delivered_ascends law first peer frame now Pongs = tt
 delivered_ascends law first peer frame now NoCall = tt
 
-entries_ascend : (first : ℕ) (legs : PeerLegs) (timed : Bool) (at accepted : ℕ) (entries : List (ℕ × Option ℕ × List ℕ))
-    → Ascends at (entries_media first legs timed at accepted entries).signals
-entries_ascend first legs timed at accepted [] = tt
-entries_ascend first legs timed at accepted (entry ∷ entries) =
+entries_ascend : (first : ℕ) (legs : PeerLegs) (limited : Bool) (taken : List ℕ) (timed : Bool) (at accepted : ℕ)
+    (entries : List (ℕ × Option ℕ × List ℕ)) → Ascends at (entries_media first legs limited taken timed at accepted entries).signals
+entries_ascend first legs limited taken timed at accepted [] = tt
+entries_ascend first legs limited taken timed at accepted (entry ∷ entries) =
     let span = entry_span timed at entry in
-    let now = media_at first accepted (leg_of_remote legs entry.0) span in
-    media_then first accepted at (leg_of_remote legs entry.0) span
-    (entries_media first legs timed span.end (accepted + now.octets) entries).signals (omega arith) (omega arith)
-    (entries_ascend first legs timed span.end (accepted + now.octets) entries)
+    let leg = taker limited taken (leg_of_remote legs entry.0) in
+    let now = media_at first accepted leg span in
+    media_then first accepted at leg span
+    (entries_media first legs limited (taken_by taken leg) timed span.end (accepted + now.octets) entries).signals (omega arith)
+    (omega arith) (entries_ascend first legs limited (taken_by taken leg) timed span.end (accepted + now.octets) entries)
 
 mini_ascends : (first accepted : ℕ) (o : Option NamedLeg) (span : MediaSpan) → span.start ≤ span.end
     → Ascends 0 (media_at first accepted o span).signals
@@ -123,10 +125,10 @@ datagram_ascends law first peer (Mini mini) now =
     mini_ascends first peer.accounts.accepted (leg_of_remote peer.legs mini.source) (mini_span mini) (omega arith)
 datagram_ascends law first peer (Video video) now = tt
 datagram_ascends law first peer (Trunk trunk) now =
-    lower 0 8 (entries_media first peer.legs (is_timed trunk.command_data) 8 peer.accounts.accepted
+    lower 0 8 (entries_media first peer.legs peer.rules.is_hardened [] (is_timed trunk.command_data) 8 peer.accounts.accepted
     (map entry_item trunk.entries)).signals
-    (omega arith) (entries_ascend first peer.legs (is_timed trunk.command_data) 8 peer.accounts.accepted
-    (map entry_item trunk.entries))
+    (omega arith) (entries_ascend first peer.legs peer.rules.is_hardened [] (is_timed trunk.command_data) 8
+    peer.accounts.accepted (map entry_item trunk.entries))
 
 -- ---- openings
 

@@ -25,6 +25,7 @@ use Rattle.peer_lock.specs.Delivery.{Delivery, Reaches, NeedsNumber, NoToken, Ge
 use Rattle.peer_legs.specs.Legs.{NamedLeg, PeerLegs, leg_of_remote}
 use Rattle.peer_accounts.specs.Grants.{granted}
 use Rattle.peer_lock.specs.Peer.{PeerView, PeerStep, handed_up}
+use Rattle.peer_lock.specs.TrunkEntries.{taken_by, taker}
 use Rattle.peer_lock.proofs.Shortness.{trunk_len}
 
 -- signals that hand up this many octets of media, all within a datagram of len octets
@@ -122,18 +123,19 @@ both len (up ∷ a) b m n one other =
     sum : (u all a n m : ℕ) → all ≡ a + n → u + a ≡ m → u + all ≡ m + n
     sum u all a n m e f = omega (arith, e, f)
 
-entries_carry : (len first : ℕ) (legs : PeerLegs) (timed : Bool) (at accepted : ℕ) (entries : List (ℕ × Option ℕ × List ℕ))
-    → at + entries_len timed entries ≤ len
-    → Carries len (entries_media first legs timed at accepted entries).signals (entries_media first legs timed at accepted
-    entries).octets
-entries_carry len first legs timed at accepted [] fits = none len
-entries_carry len first legs timed at accepted (entry ∷ entries) fits =
+entries_carry : (len first : ℕ) (legs : PeerLegs) (limited : Bool) (taken : List ℕ) (timed : Bool) (at accepted : ℕ)
+    (entries : List (ℕ × Option ℕ × List ℕ)) → at + entries_len timed entries ≤ len
+    → Carries len (entries_media first legs limited taken timed at accepted entries).signals (entries_media first legs limited
+    taken timed at accepted entries).octets
+entries_carry len first legs limited taken timed at accepted [] fits = none len
+entries_carry len first legs limited taken timed at accepted (entry ∷ entries) fits =
     let span = entry_span timed at entry in
-    both len _ _ _ _ (media_carries len first accepted (leg_of_remote legs entry.0) span
+    let leg = taker limited taken (leg_of_remote legs entry.0) in
+    both len _ _ _ _ (media_carries len first accepted leg span
     (ordered (at + head_len timed) (length entry.2)) (inside at (head_len timed) (length entry.2) (entries_len timed entries)
     len fits))
-    (entries_carry len first legs timed span.end (accepted + (media_at first accepted (leg_of_remote legs entry.0) span).octets)
-    entries
+    (entries_carry len first legs limited (taken_by taken leg) timed span.end
+    (accepted + (media_at first accepted leg span).octets) entries
     (onward at (head_len timed) (length entry.2) (entries_len timed entries) len fits))
   where
     ordered : (start n : ℕ) → start ≤ start + n
@@ -170,7 +172,7 @@ datagram_carries law first peer octets (Mini mini) now s =
     least n m e = omega (arith, e)
 datagram_carries law first peer octets (Video video) now s = carries_own (length octets) _ (none (length octets))
 datagram_carries law first peer octets (Trunk trunk) now s =
-    carries_own (length octets) _ (entries_carry (length octets) first peer.legs (is_timed trunk.command_data) 8
+    carries_own (length octets) _ (entries_carry (length octets) first peer.legs peer.rules.is_hardened [] (is_timed trunk.command_data) 8
     peer.accounts.accepted (map entry_item trunk.entries)
     (same (8 + entries_len (is_timed trunk.command_data) (map entry_item trunk.entries)) (length octets)
     (trunk_len octets trunk s)))

@@ -1,8 +1,8 @@
 -- A VNAK brings no more frames than a window is wide.
-use Rattle.std.specs.Prelude.{option_map, ◌==◌}
+use Rattle.std.specs.Prelude.{option_map, is_some, ◌==◌}
 use Rattle.std.specs.Option.{option_to_list}
 use Rattle.std.proofs.Common.{◌≡◌, ◌≤◌, ℕ, ◌+◌, ◌&&◌, Bool, cond, List, [], ◌∷◌, Option, None, Some, length, subst, refl, arith}
-use Rattle.std.proofs.lemmas.List.{length-map, length-drop, take_all}
+use Rattle.std.proofs.lemmas.List.{length-append, length-map, length-drop, take_all}
 use Rattle.call_signals.specs.Message.{message_of, is_inval, is_vnak}
 use Rattle.call_signals.specs.Stage.{is_closing}
 use Rattle.call_signals.specs.declared.message.Message.{Message}
@@ -13,15 +13,18 @@ use Rattle.iax_frames.specs.declared.datagram.Datagram.TheVariants.{Full}
 use Rattle.iax_frames.specs.declared.stored_frame.Frame.{Frame}
 use Rattle.leg_machine.specs.Leg.{LegState, staged}
 use Rattle.leg_machine.specs.Replies.{sent_again}
-use Rattle.leg_machine.specs.Steps.{Step, answer_step, inval_step, message_step, nothing_sent, numbered_step, oldest_step}
-use Rattle.leg_machine.specs.Steps.{prepared, resend_step, vnak_step}
+use Rattle.leg_machine.specs.Steps.{Step, answer_step, full_step, handled_step, inval_step, message_step, nothing_sent}
+use Rattle.leg_machine.specs.Steps.{numbered_step, oldest_step, prepared, resend_step, vnak_step}
 use Rattle.leg_machine.specs.Tie.{IsLegOf}
-use Rattle.leg_machine.specs.Working.{acknowledged, brings_oldest, counts, learnt, vnak_noted}
+use Rattle.leg_machine.specs.Tries.{frames_again}
+use Rattle.leg_machine.specs.Working.{acknowledged, brings_nothing, brings_oldest, counts, is_unaddressed, learnt, refusal}
+use Rattle.leg_machine.specs.Working.{vnak_noted}
 use Rattle.peer_legs.specs.Finding.{found}
 use Rattle.peer_legs.specs.Legs.{NamedLeg}
-use Rattle.peer_lock.specs.Delivery.{delivered, legless}
+use Rattle.peer_lock.specs.Delivery.{closed_to_calls, delivered, legless}
 use Rattle.peer_lock.specs.Loads.{datagram_load, delivered_load}
 use Rattle.peer_lock.specs.Peer.{PeerView}
+use Rattle.peer_lock.specs.declared.steps.Rejection.{Rejection}
 use Rattle.peer_lock.specs.declared.pokes.Pokes.{Pokes}
 use Rattle.peer_lock.specs.SoundPeer.{IsSoundPeer}
 use Rattle.peer_lock.proofs.Choices.{either}
@@ -71,22 +74,27 @@ list_few None = omega arith
 list_few (Some one) = omega arith
 
 -- to a leg that holds so few
-answer_few : (most : ℕ) (leg : LegState) (number now : ℕ) → 1 ≤ most → held_count leg.window ≤ most
+answer_few : (most : ℕ) (leg : LegState) (number now : ℕ) → 2 ≤ most → held_count leg.window ≤ most
     → length (answer_step leg number now).replies ≤ most
 answer_few most leg number now some few =
     let noted : LegState = vnak_noted leg number now in
     let oldest = list_few (option_map (sent_again noted) (held_at noted.window 0)) in
+    let next = list_few (option_map (sent_again noted) (held_at noted.window 1)) in
+    let both = length-append (frames_again noted 0) (frames_again noted 1) in
     let all = from_few (acked_count leg.window.history) (held leg.window.history) leg.window.sendings in
-    either (λ (s : Step). length s.replies ≤ most) (brings_oldest leg number now) (oldest_step noted now) (resend_step noted now)
-    (omega (arith, oldest, some)) (omega (arith, length-map (held_frames leg.window) (sent_again noted), all, few))
+    let P : Step → Type 0 = λ s. length s.replies ≤ most in
+    either P (brings_nothing leg number now) (nothing_sent leg)
+    (cond (brings_oldest leg now) (oldest_step noted now) (resend_step noted now)) (omega arith)
+    (either P (brings_oldest leg now) (oldest_step noted now) (resend_step noted now) (omega (arith, oldest, next, both, some))
+    (omega (arith, length-map (held_frames leg.window) (sent_again noted), all, few)))
 
-vnak_few_at : (most : ℕ) (judged : Acknowledged) (leg : LegState) (number now : ℕ) → 1 ≤ most → held_count leg.window ≤ most
+vnak_few_at : (most : ℕ) (judged : Acknowledged) (leg : LegState) (number now : ℕ) → 2 ≤ most → held_count leg.window ≤ most
     → length (vnak_step judged leg number now).replies ≤ most
 vnak_few_at most judged leg number now some few =
     either (λ (s : Step). length s.replies ≤ most) (counts judged) (answer_step leg number now) (nothing_sent leg)
     (answer_few most leg number now some few) (omega arith)
 
-message_few_at : (most : ℕ) (message : Message) (leg : LegState) (frame : FullFrame) (now : ℕ) → 1 ≤ most
+message_few_at : (most : ℕ) (message : Message) (leg : LegState) (frame : FullFrame) (now : ℕ) → 2 ≤ most
     → held_count leg.window ≤ most
     → length (message_step message leg frame now).replies ≤ most
 message_few_at most message leg frame now some few =
@@ -100,24 +108,33 @@ message_few_at most message leg frame now some few =
     (vnak_few_at most judged (prepared leg frame) frame.head.iseqno now some (omega (arith, prepared_few leg frame, few)))
     (omega (arith, numbered_few (prepared leg frame) frame message now, some)))
 
+full_few_at : (most : ℕ) (leg : LegState) (frame : FullFrame) (now : ℕ) → 2 ≤ most → held_count leg.window ≤ most
+    → length (full_step leg frame now).replies ≤ most
+full_few_at most leg frame now some few =
+    let message = message_of frame.head in
+    let P : Step → Type 0 = λ s. length s.replies ≤ most in
+    either P (is_some (refusal leg frame)) (nothing_sent leg) (handled_step leg frame now) (omega arith)
+    (either P (is_unaddressed leg frame) (numbered_step leg frame message now) (message_step message leg frame now)
+    (omega (arith, numbered_few leg frame message now, some)) (message_few_at most message leg frame now some few))
+
 -- ---- at a peer
 
 -- without a leg
-unknown_few : (drains : Bool) (rules : PeerRules) (pokes : Pokes) (frame : FullFrame) (now : ℕ)
-    → (delivered_load (legless drains rules pokes frame now) frame now).datagrams ≤ 127
-unknown_few drains rules pokes frame now =
-    of_each (λ d. (delivered_load d frame now).datagrams ≤ 127) drains rules pokes frame now (omega arith) (omega arith)
+unknown_few : (closed : Option Rejection) (rules : PeerRules) (pokes : Pokes) (frame : FullFrame) (now : ℕ)
+    → (delivered_load (legless closed rules pokes frame now) frame now).datagrams ≤ 127
+unknown_few closed rules pokes frame now =
+    of_each (λ d. (delivered_load d frame now).datagrams ≤ 127) closed rules pokes frame now (omega arith) (omega arith)
     (omega arith) (omega arith) (omega arith) (omega arith) (omega arith)
-    (omega arith)
+    (λ why. omega arith)
     (λ tokens. omega arith)
 
 found_few : (peer : PeerView) (frame : FullFrame) (now : ℕ) (o : Option NamedLeg) → IsSoundPeer peer → found peer.legs frame ≡ o
-    → (delivered_load (delivered peer.drains peer.rules peer.pokes o frame now) frame now).datagrams ≤ 127
-found_few peer frame now None sound is = unknown_few peer.drains peer.rules peer.pokes frame now
+    → (delivered_load (delivered (closed_to_calls peer) peer.rules peer.pokes o frame now) frame now).datagrams ≤ 127
+found_few peer frame now None sound is = unknown_few (closed_to_calls peer) peer.rules peer.pokes frame now
 found_few peer frame now (Some named) sound is =
     let at = found_named peer.legs frame named sound.legs is in
     let few = held_few peer.rules named.leg (sound.kept.ruled named.name.number named at) in
-    message_few_at 127 (message_of frame.head) named.leg frame now (omega arith) (omega (arith, few, sound.kept.rules.window.1))
+    full_few_at 127 named.leg frame now (omega arith) (omega (arith, few, sound.kept.rules.window.1))
 
 pub vnak_few : (peer : PeerView) (frame : FullFrame) (now : ℕ) → IsSoundPeer peer
     → (datagram_load peer (Full frame) now).datagrams ≤ 127

@@ -1,9 +1,12 @@
+mod Tokens
 pub mod Ascending
 pub mod Bursts
 pub mod Carrying
 pub mod Choices
+pub mod ClosedToCalls
 pub mod Entries
 pub mod FewAgain
+pub mod FewEntries
 pub mod Kept
 pub mod LegRefusals
 pub mod NoneDropped
@@ -17,8 +20,6 @@ pub mod OrderlySteps
 pub mod OrderlyTicks
 pub mod Packing
 pub mod Reached
-mod Tokens
-mod Draining
 pub mod Refusing
 pub mod Resting
 pub mod Room
@@ -26,6 +27,7 @@ pub mod RoomSteps
 pub mod SeenArrivals
 pub mod SeenChanges
 pub mod SeenSteps
+pub mod Sending
 pub mod Shortness
 pub mod Sides
 pub mod SidesEvents
@@ -35,4 +37,4 @@ pub mod Ticking
 pub mod Trunks
 pub mod UnknownCalls
 pub mod Views
-pub mod Sending
+mod PokeLaws

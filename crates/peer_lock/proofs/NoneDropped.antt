@@ -16,9 +16,9 @@ use Rattle.peer_legs.specs.Legs.{NamedLeg, leg_named}
 use Rattle.peer_lock.specs.Orders.{ordered_at, ordered_if, ordered_step, counted_media, short_media, waiting_media}
 use Rattle.peer_lock.specs.Orders.{queued_media, carried_media, with_entry, with_media}
 use Rattle.peer_lock.specs.Peer.{PeerView, flushed_if, with_datagram}
-use Rattle.peer_lock.specs.Trunks.{waits, is_full_for, fills_frame, begins_next, queue_after}
+use Rattle.peer_lock.specs.Trunks.{waits, is_full_for, fills_frame, has_enough, begins_next, queue_after}
 use Rattle.peer_lock.proofs.Choices.{either}
-use Rattle.trunk_packer.specs.Queue.{QueueEntry, has_call}
+use Rattle.trunk_packer.specs.Queue.{QueueEntry}
 
 first_false : (a b c : Bool) → (a && (b || c)) ≡ false → a ≡ true → b ≡ false
 first_false true true c e is = cc
@@ -37,7 +37,7 @@ pub not_full : (rules : PeerRules) (queue : List QueueEntry) (number octets : �
 not_full rules queue number octets waiting short = elim (cases_Bool (begins_next rules queue number octets)) [
   | inl e ↦ rw e (emptied queue)
   | inr e ↦ rw e (first_false (waits rules) (is_full_for queue octets)
-      (fills_frame rules.trunk_timestamps queue octets || (not rules.trunk_timestamps && has_call number queue)) e waiting)
+      (fills_frame rules.trunk_timestamps queue octets || has_enough rules.trunk_timestamps queue number) e waiting)
 ]
   where
     emptied : (q : List QueueEntry) → is_full_for (queue_after true q) octets ≡ false

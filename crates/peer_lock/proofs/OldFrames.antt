@@ -1,5 +1,5 @@
 -- Full frames without new media: a leg sends voice only by an order of media, or again.
-use Rattle.std.specs.Prelude.{◌&&◌, map, option_map}
+use Rattle.std.specs.Prelude.{◌&&◌, is_some, map, option_map}
 use Rattle.std.specs.List.{AllByRecursion}
 use Rattle.std.specs.Option.{option_to_list}
 use Rattle.std.proofs.Common.{ℕ, ◌≡◌, zero, suc, Bool, true, false, cond, List, [], ◌∷◌, ◌++◌, Option, None, Some}
@@ -23,11 +23,12 @@ use Rattle.leg_machine.specs.LegTable.{effect_of}
 use Rattle.leg_machine.specs.Replies.{next_byte, outgoing, reply_frame, sent_again}
 use Rattle.leg_machine.specs.Steps.{Step, answer_step, answered, answers, asking, full_step, gap_step, inval_step, invalidated}
 use Rattle.leg_machine.specs.Steps.{judged_step, message_step, no_room, not_asking, nothing_sent, numbered_step, oldest_step}
-use Rattle.leg_machine.specs.Steps.{prepared, resend_step, taken, taken_step, vnak_step}
+use Rattle.leg_machine.specs.Steps.{handled_step, prepared, resend_step, taken, taken_step, vnak_step}
 use Rattle.leg_machine.specs.Ticks.{Tick, due_frames, hang_up_step, last_step, must_hang_up, must_ping, ping_step, pinged, quiet}
 use Rattle.leg_machine.specs.Ticks.{sends_if, tick_step}
 use Rattle.leg_machine.specs.Tries.{Tried, after_try, frames_again, one_try, tries}
-use Rattle.leg_machine.specs.Working.{brings_oldest, counts, heeds_inval, vnak_noted, wants_vnak}
+use Rattle.leg_machine.specs.Working.{brings_nothing, brings_oldest, counts, heeds_inval, is_unaddressed, refusal, vnak_noted}
+use Rattle.leg_machine.specs.Working.{wants_vnak}
 use Rattle.peer_lock.proofs.Choices.{either}
 use Rattle.peer_lock.proofs.OrderlyParts.{IsOld}
 use Rattle.resend_queue.specs.declared.held_frame.Held.{Held}
@@ -104,8 +105,12 @@ inval_old leg frame now =
 asked_old : (leg : LegState) (number now : ℕ) → AreOld (answer_step leg number now).replies
 asked_old leg number now =
     let noted = vnak_noted leg number now in
-    either (λ (s : Step). AreOld s.replies) (brings_oldest leg number now) (oldest_step noted now) (resend_step noted now)
-    (found_old noted (held_at noted.window 0)) (again_old noted (held_frames noted.window))
+    let P : Step → Type 0 = λ s. AreOld s.replies in
+    either P (brings_nothing leg number now) (nothing_sent leg)
+    (cond (brings_oldest leg now) (oldest_step noted now) (resend_step noted now)) tt
+    (either P (brings_oldest leg now) (oldest_step noted now) (resend_step noted now)
+    (old_both (frames_again noted 0) (frames_again noted 1) (found_old noted (held_at noted.window 0))
+    (found_old noted (held_at noted.window 1))) (again_old noted (held_frames noted.window)))
 
 vnak_old : (acknowledgement : Judgement) (leg : LegState) (number now : ℕ)
     → AreOld (vnak_step acknowledgement leg number now).replies
@@ -126,7 +131,12 @@ message_old message leg frame now =
     (numbered_old (prepared leg frame) frame message now))
 
 pub full_old : (leg : LegState) (frame : FullFrame) (now : ℕ) → AreOld (full_step leg frame now).replies
-full_old leg frame now = message_old (message_of frame.head) leg frame now
+full_old leg frame now =
+    let message = message_of frame.head in
+    let P : Step → Type 0 = λ s. AreOld s.replies in
+    either P (is_some (refusal leg frame)) (nothing_sent leg) (handled_step leg frame now) tt
+    (either P (is_unaddressed leg frame) (numbered_step leg frame message now) (message_step message leg frame now)
+    (numbered_old leg frame message now) (message_old message leg frame now))
 
 -- ---- a tick
 

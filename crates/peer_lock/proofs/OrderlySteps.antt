@@ -24,12 +24,14 @@ use Rattle.peer_legs.specs.Legs.{AreLegs, NamedLeg, leg_named, with_leg, with_pl
 use Rattle.peer_lock.specs.Arrivals.{MediaTaken, answering, datagram_step, delivered_step, media_step, mini_media, trunk_media}
 use Rattle.peer_lock.specs.CarriedOn.{CarriesByOrder, CarriesOn}
 use Rattle.peer_lock.specs.Delivery.{Delivery, Gets, NeedsNumber, NoCall, NoToken, Pongs, Reaches, answer_data, answer_octets}
-use Rattle.peer_lock.specs.Delivery.{delivered, delivery, found, reject_for}
+use Rattle.peer_lock.specs.Delivery.{closed_to_calls, delivered, delivery, found, reject_for}
 use Rattle.peer_lock.specs.Openings.{opens_in, opens_out, rejects_new, with_opened, with_seated}
 use Rattle.peer_lock.specs.Orders.{carries_media, ordered_at, ordered_if, ordered_step, with_order}
 use Rattle.peer_lock.specs.Peer.{PeerView, counted, flushed_if, granted, with_datagram, with_sent, without_leg}
 use Rattle.peer_lock.specs.Pokes.{answered as pokes_answered}
 use Rattle.peer_lock.specs.Trunks.{goes_ahead}
+use Rattle.peer_lock.specs.declared.steps.Rejection.{Rejection}
+use Rattle.peer_lock.specs.declared.steps.Rejection.TheVariants.{NoNumber}
 use Rattle.peer_lock.specs.declared.unknown_calls.Answer.{Answer}
 use Rattle.peer_lock.proofs.OldFrames.{AreOld, full_old, reply_old, taken_old}
 use Rattle.peer_lock.proofs.OrderlyMedia.{media_goes}
@@ -62,12 +64,12 @@ abbrev IsOldDelivery : Delivery → Type 0
 IsOldDelivery (Gets answer) = IsOldAnswer answer
 IsOldDelivery other = Unit {0}
 
-delivery_old : (drains : Bool) (peer : PeerView) (o : Option NamedLeg) (frame : FullFrame) (now : ℕ)
-    → IsOldDelivery (delivered drains peer.rules peer.pokes o frame now)
-delivery_old drains peer (Some named) frame now = tt
-delivery_old drains peer None frame now =
-    of_each IsOldDelivery drains peer.rules peer.pokes frame now tt tt tt tt (λ is. absurd (omega (arith, is)))
-    (λ is. absurd (omega (arith, is))) (λ is. absurd (omega (arith, is))) (λ is. absurd (omega (arith, is)))
+delivery_old : (closed : Option Rejection) (peer : PeerView) (o : Option NamedLeg) (frame : FullFrame) (now : ℕ)
+    → IsOldDelivery (delivered closed peer.rules peer.pokes o frame now)
+delivery_old closed peer (Some named) frame now = tt
+delivery_old closed peer None frame now =
+    of_each IsOldDelivery closed peer.rules peer.pokes frame now tt tt tt tt (λ is. absurd (omega (arith, is)))
+    (λ is. absurd (omega (arith, is))) (λ is. absurd (omega (arith, is))) (λ why is. absurd (omega (arith, is)))
     (λ tokens is. absurd (omega (arith, is)))
 
 delivered_carries : (first : ℕ) (peer : PeerView) (to : Delivery) (frame : FullFrame) (now : ℕ) → IsOldDelivery to
@@ -88,7 +90,7 @@ delivered_carries first peer NoCall frame now old = counted_carries peer
 pub datagram_carries : (first : ℕ) (peer : PeerView) (datagram : Datagram) (now : ℕ)
     → CarriesOn peer (datagram_step first peer datagram now).peer
 datagram_carries first peer (Full frame) now =
-    delivered_carries first peer (delivery peer frame now) frame now (delivery_old peer.drains peer
+    delivered_carries first peer (delivery peer frame now) frame now (delivery_old (closed_to_calls peer) peer
     (found peer.legs frame) frame now)
 datagram_carries first peer (Mini mini) now = media_carries peer (mini_media first peer mini)
 datagram_carries first peer (Video video) now = counted_carries peer
@@ -111,7 +113,7 @@ call_in_carries peer name frame now challenge =
     now)
 
 pub rejection_carries : (peer : PeerView) (frame : FullFrame) → CarriesOn peer (rejects_new peer frame).peer
-rejection_carries peer frame = answer_carries peer (reject_for frame.head) (λ is. absurd (omega (arith, is)))
+rejection_carries peer frame = answer_carries peer (reject_for NoNumber frame.head) (λ is. absurd (omega (arith, is)))
 
 pub call_out_carries : (peer : PeerView) (name : LegName) (called caller : List ℕ) (format : Format) (now : ℕ)
     → CarriesOn peer (opens_out peer name called caller format now).peer

@@ -16,7 +16,7 @@ use Rattle.peer_lock.proofs.Orderly.{queued_both, sent_entries}
 use Rattle.peer_lock.specs.CarriedOn.{CarriesOn, IsOutgoing, Outgoing, Trunk, entries_in, nothing, octets_of}
 use Rattle.peer_lock.specs.CarriedOn.{ordered_in}
 use Rattle.peer_lock.specs.Peer.{PeerView, counted}
-use Rattle.peer_lock.specs.Pokes.{is_poke_due, poke_head, poke_octets, pokes_after, pokes_sent}
+use Rattle.peer_lock.specs.Pokes.{is_poke_due, poke_head, poke_octets, poke_stamp, pokes_after, pokes_sent}
 use Rattle.peer_lock.specs.Ticks.{LegsTick, Packs, PacksFronts, Ticks, asked, flushed_ahead, legs_tick, place_tick}
 use Rattle.peer_lock.specs.Trunks.{has_any, is_due, waits}
 use Rattle.peer_lock.specs.declared.steps.TickReport.{TickReport}
@@ -49,13 +49,13 @@ put_frames peer datagrams frames =
     subst (λ (d : List (List ℕ)). CarriesOn peer (record peer { outbox = put peer.outbox d })) frames.spelled
     (put_carries peer frames.frames frames.old)
 
-poke_frames : (due : Bool) (now : ℕ) → Frames (cond due (poke_octets now ∷ []) [])
-poke_frames true now = record {
-  frames = record { head = poke_head now; payload = [] } ∷ [];
+poke_frames : (due : Bool) (timestamp : ℕ) → Frames (cond due (poke_octets timestamp ∷ []) [])
+poke_frames true timestamp = record {
+  frames = record { head = poke_head timestamp; payload = [] } ∷ [];
   spelled = refl;
   old = ((λ is. absurd (omega (arith, is))), tt);
 }
-poke_frames false now = no_frames
+poke_frames false timestamp = no_frames
 
 place_frames : (skipped : ℕ) (place : Option NamedLeg) (now : ℕ) → Frames (place_tick skipped place now).datagrams
 place_frames skipped None now = no_frames
@@ -170,7 +170,7 @@ tick_carries old now report new ticks =
     let asks : CarriesOn old first =
     carries_then old begins first (counted_carries old)
     (carries_too begins poked poked.legs (pokes_after old.rules old.pokes now) poked.accounts refl
-    (put_frames begins pokes (poke_frames (is_poke_due old.rules old.pokes now) now))) in
+    (put_frames begins pokes (poke_frames (is_poke_due old.rules old.pokes now) (poke_stamp old.rules now)))) in
     let ahead : CarriesOn old flushed =
     carries_then old first flushed asks (flush_carries (has_any all.datagrams && waits first.rules) first) in
     let sends : CarriesOn old out =

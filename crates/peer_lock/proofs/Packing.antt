@@ -6,8 +6,9 @@ use Rattle.outbox.specs.Outbox.{OutboxView}
 use Rattle.peer_accounts.specs.Accounts.{Accounts}
 use Rattle.peer_lock.specs.Peer.{PeerView}
 use Rattle.peer_lock.specs.SoundPeer.{IsKept}
+use Rattle.peer_lock.specs.Trunks.{most_entries}
 use Rattle.peer_lock.specs.Ticks.{PacksFronts, PacksOne, PacksMedia, IsPacked, with_packed}
-use Rattle.trunk_packer.specs.Queue.{QueueEntry, media_octets, trunk_octets, PacksFront}
+use Rattle.trunk_packer.specs.Queue.{QueueEntry, call_entries, media_octets, trunk_octets, PacksFront}
 
 -- one front more
 fronts_more : (timed : Bool) (now : ℕ) (datagrams : List (List ℕ)) (old between new : List QueueEntry) (datagram : List ℕ)
@@ -88,6 +89,17 @@ short_rest timed now old new out packs short =
     let whole : trunk_octets timed old ≡ trunk_octets timed (packs.front ++ new) = ap (trunk_octets timed) packs.whole in
     omega (arith, rest_octets timed packs.front new, whole, short)
 
+-- nor has it more entries of a call
+rest_entries : (number : ℕ) (front rest : List QueueEntry) → call_entries number rest ≤ call_entries number (front ++ rest)
+rest_entries number [] rest = omega arith
+rest_entries number (e ∷ front) rest = omega (arith, rest_entries number front rest)
+
+few_rest : (timed : Bool) (now most number : ℕ) (old new : List QueueEntry) (out : List ℕ) → PacksFront timed now old new out
+    → call_entries number old ≤ most → call_entries number new ≤ most
+few_rest timed now most number old new out packs few =
+    let whole : call_entries number old ≡ call_entries number (packs.front ++ new) = ap (call_entries number) packs.whole in
+    omega (arith, rest_entries number packs.front new, whole, few)
+
 pub packed_kept : (peer : PeerView) (now octets : ℕ) (out : List ℕ) (outbox : OutboxView) (queue : List QueueEntry)
     (accounts : Accounts) → IsKept peer
     → PacksFront peer.rules.trunk_timestamps now peer.queue queue out → media_octets peer.queue ≡ octets + media_octets queue
@@ -98,4 +110,6 @@ packed_kept peer now octets out outbox queue accounts kept packs media queued = 
   ruled = kept.ruled;
   queued = omega (arith, media, queued, kept.queued);
   one_frame = λ waiting. short_rest peer.rules.trunk_timestamps now peer.queue queue out packs (kept.one_frame waiting);
+  few_of_call = λ waiting number. few_rest peer.rules.trunk_timestamps now (most_entries peer.rules.trunk_timestamps) number
+      peer.queue queue out packs (kept.few_of_call waiting number);
 }

@@ -7,7 +7,7 @@ use Rattle.outbox.specs.Outbox.{put, extended}
 use Rattle.outbox.proofs.Puts.{put_none}
 use Rattle.peer_lock.specs.Peer.{PeerView, counted, flushed_if}
 use Rattle.peer_lock.specs.SoundPeer.{IsSoundPeer}
-use Rattle.peer_lock.specs.Pokes.{is_poke_due, poke_octets, poked, pokes_after, pokes_sent}
+use Rattle.peer_lock.specs.Pokes.{is_poke_due, poke_octets, poke_stamp, poked, pokes_after, pokes_sent}
 use Rattle.peer_lock.specs.Ticks.{asked, LegsTick, TicksLegs, Ticks, Packs, PacksMedia, PacksFronts, QueueRests, RestsAt}
 use Rattle.peer_lock.specs.Ticks.{flushed_ahead}
 use Rattle.peer_lock.specs.Trunks.{is_due, outbox_after, queue_after, accounts_after}
@@ -90,7 +90,8 @@ queue_rests (Some wait) old now octets new wait_is (inr waiting) queued packs =
 unasked : (peer : PeerView) (now : ℕ) → is_poke_due peer.rules peer.pokes now ≡ false → length peer.outbox.waiting ≤ 256
     → asked peer now ≡ peer
 unasked peer now none few =
-    let sent : pokes_sent peer.rules peer.pokes now ≡ [] = ap (λ (b : Bool). cond b (poke_octets now ∷ []) []) none in
+    let poke : List (List ℕ) = poke_octets (poke_stamp peer.rules now) ∷ [] in
+    let sent : pokes_sent peer.rules peer.pokes now ≡ [] = ap (λ (b : Bool). cond b poke []) none in
     let pokes : pokes_after peer.rules peer.pokes now ≡ peer.pokes =
     ap (λ (b : Bool). cond b (poked peer.rules peer.pokes now) peer.pokes) none in
     λ i. record peer { outbox = (ap (put peer.outbox) sent ∙ sym (put_none peer.outbox few)) i; pokes = pokes i }

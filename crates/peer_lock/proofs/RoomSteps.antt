@@ -1,5 +1,5 @@
 -- The loads that datagrams, openings, ticks and the removal of a leg put into a peer's outbox and trunk queue.
-use Rattle.std.specs.Prelude.{map, nat_lt}
+use Rattle.std.specs.Prelude.{is_some, map, nat_lt}
 use Rattle.std.proofs.Common.{◌≡◌, ◌≤◌, ℕ, ◌+◌, ◌&&◌, Bool, false, cond, List, [], ◌∷◌, ◌++◌, Option, None, Some, length, ap, sym}
 use Rattle.std.proofs.Common.{subst, refl, arith}
 use Rattle.std.proofs.lemmas.List.{length-append, length-map}
@@ -20,8 +20,8 @@ use Rattle.leg_machine.specs.LegTable.{effect_of}
 use Rattle.leg_machine.specs.Openings.{leg_for_new, open_in_step, open_out_step, opening_effect, opening_of}
 use Rattle.leg_machine.specs.Steps.{Step, answers, answered, asking, full_step, gap_step, inval_step, invalidated, judged_step}
 use Rattle.leg_machine.specs.Steps.{message_step, no_room, not_asking, nothing_sent, numbered_step, prepared, taken, taken_step}
-use Rattle.leg_machine.specs.Steps.{vnak_step}
-use Rattle.leg_machine.specs.Working.{heeds_inval, wants_vnak}
+use Rattle.leg_machine.specs.Steps.{handled_step, vnak_step}
+use Rattle.leg_machine.specs.Working.{heeds_inval, is_unaddressed, refusal, wants_vnak}
 use Rattle.outbox.specs.Outbox.{put}
 use Rattle.peer_accounts.specs.Accounts.{stepped, with_accepted}
 use Rattle.peer_accounts.specs.Grants.{granted}
@@ -38,6 +38,7 @@ use Rattle.peer_lock.specs.declared.pokes.Pokes.{Pokes}
 use Rattle.peer_lock.specs.Ticks.{asked, LegsTick, Packs, PacksFronts, Ticks, flushed_ahead, legs_tick}
 use Rattle.peer_lock.specs.Trunks.{has_any, goes_ahead, is_due, waits}
 use Rattle.peer_lock.specs.declared.steps.TickReport.{TickReport}
+use Rattle.peer_lock.specs.declared.steps.Rejection.TheVariants.{NoNumber}
 use Rattle.peer_lock.specs.declared.unknown_calls.Answer.{Answer}
 use Rattle.peer_lock.proofs.Choices.{either}
 use Rattle.peer_lock.proofs.Room.{flush_puts, none_put, put_puts, puts_less, puts_too, sent_puts, then_puts}
@@ -96,9 +97,18 @@ message_few message leg frame now other =
     (subst (λ (b : Bool). length (cond b asked numbered).replies ≤ 1) (sym other) (numbered_few (prepared leg frame) frame message
     now))
 
+full_few : (leg : LegState) (frame : FullFrame) (now : ℕ) → is_vnak (message_of frame.head) ≡ false
+    → length (full_step leg frame now).replies ≤ 1
+full_few leg frame now other =
+    let message = message_of frame.head in
+    let P : Step → Type 0 = λ s. length s.replies ≤ 1 in
+    either P (is_some (refusal leg frame)) (nothing_sent leg) (handled_step leg frame now) (omega arith)
+    (either P (is_unaddressed leg frame) (numbered_step leg frame message now) (message_step message leg frame now)
+    (numbered_few leg frame message now) (message_few message leg frame now other))
+
 delivered_few : (to : Delivery) (frame : FullFrame) (now : ℕ) → is_vnak (message_of frame.head) ≡ false
     → (delivered_load to frame now).datagrams ≤ 1
-delivered_few (Reaches named) frame now other = message_few (message_of frame.head) named.leg frame now other
+delivered_few (Reaches named) frame now other = full_few named.leg frame now other
 delivered_few NeedsNumber frame now other = omega arith
 delivered_few NoToken frame now other = omega arith
 delivered_few (Gets answer) frame now other = omega arith
@@ -189,7 +199,7 @@ call_in_puts peer name frame now challenge =
     ))
 
 pub rejection_puts : (peer : PeerView) (frame : FullFrame) → Puts (load_of 1) peer (rejects_new peer frame).peer
-rejection_puts peer frame = answering_puts peer (reject_for frame.head)
+rejection_puts peer frame = answering_puts peer (reject_for NoNumber frame.head)
 
 pub call_out_puts : (peer : PeerView) (name : LegName) (called caller : List ℕ) (format : Format) (now : ℕ)
     → Puts (load_of 1) peer (opens_out peer name called caller format now).peer

@@ -1,6 +1,6 @@
 -- The visible effect of a step in which a datagram comes.
 use Rattle.std.specs.Prelude.{◌&&◌, option_map, map}
-use Rattle.std.proofs.Common.{◌≡◌, ℕ, ◌+◌, ◌==◌, nat_le, Bool, true, false, inl, inr, List, [], ◌∷◌, ◌++◌, Option, Some, None}
+use Rattle.std.proofs.Common.{◌≡◌, ℕ, ◌+◌, ◌==◌, nat_le, Bool, true, false, cond, inl, inr, List, [], ◌∷◌, ◌++◌, Option, Some, None}
 use Rattle.std.proofs.Common.{refl, sym, ap, ◌∙◌}
 use Rattle.std.proofs.lemmas.Bool.{cases_Bool}
 use Rattle.std.proofs.lemmas.List.{append_assoc}
@@ -25,13 +25,14 @@ use Rattle.call_signals.specs.declared.stage.Stage.{Stage}
 use Rattle.call_signals.specs.declared.stage.Stage.TheVariants as stages
 use Rattle.peer_lock.specs.Arrivals.{delivered_step, reached_step, datagram_step, media_at, mini_span, entries_media, entry_span}
 use Rattle.peer_legs.specs.Finding.{found, if_reached, is_reached}
-use Rattle.peer_lock.specs.Delivery.{Delivery, NeedsNumber, NoToken, Gets, Pongs, NoCall, delivered, drained_for, inval_for}
-use Rattle.peer_lock.specs.Delivery.{legless, pong_for, regrej_for, token_for}
+use Rattle.peer_lock.specs.Delivery.{Delivery, NeedsNumber, NoToken, Gets, Pongs, NoCall, closed_to_calls, delivered, inval_for}
+use Rattle.peer_lock.specs.Delivery.{legless, pong_for, regrej_for, reject_for, token_for}
 use Rattle.peer_legs.specs.Legs.{NamedLeg, PeerLegs, AreLegs, leg_at, leg_of_remote}
 use Rattle.peer_accounts.specs.Grants.{granted}
 use Rattle.peer_lock.specs.Peer.{PeerView, PeerStep, handed_up}
 use Rattle.peer_lock.specs.Seen.{seen_named, seen_at, Brings, IsSeenDatagram, media_up, all_media}
 use Rattle.peer_lock.specs.declared.unknown_calls.Answer.{Answer}
+use Rattle.peer_lock.specs.TrunkEntries.{has_its_share, taken_by, taker}
 use Rattle.peer_lock.proofs.UnknownCalls.{of_each}
 use Rattle.peer_lock.proofs.SeenChanges.{leg_turns, own_number, remote_named}
 
@@ -133,7 +134,7 @@ nothing_seen : (old : PeerLegs) (step : PeerStep) → step.peer.legs ≡ old →
 nothing_seen old step same none untouched = inr (record { same = same; media = []; signals = none; touched = untouched })
 
 unknown_seen : (first : ℕ) (peer : PeerView) (frame : FullFrame) (now : ℕ)
-    → IsSeenDatagram peer.legs (delivered_step first peer (legless peer.drains peer.rules peer.pokes frame now) frame now)
+    → IsSeenDatagram peer.legs (delivered_step first peer (legless (closed_to_calls peer) peer.rules peer.pokes frame now) frame now)
 unknown_seen first peer frame now =
     let P : Delivery → Type 0 = λ d. IsSeenDatagram peer.legs (delivered_step first peer d frame now) in
     let needs : P NeedsNumber = nothing_seen peer.legs _ refl refl refl in
@@ -141,14 +142,14 @@ unknown_seen first peer frame now =
     let no_token : P NoToken = nothing_seen peer.legs _ refl refl refl in
     let no_call : P NoCall = nothing_seen peer.legs _ refl refl refl in
     let pongs : P Pongs = nothing_seen peer.legs _ refl refl refl in
-    of_each P peer.drains peer.rules peer.pokes frame now needs no_token no_call pongs (gets (inval_for frame.head))
+    of_each P (closed_to_calls peer) peer.rules peer.pokes frame now needs no_token no_call pongs (gets (inval_for frame.head))
     (gets (pong_for frame.head)) (gets (regrej_for frame.head))
-    (gets (drained_for frame.head))
+    (λ why. gets (reject_for why frame.head))
     (λ tokens. gets (token_for tokens frame.head now))
 
 full_seen : (law : FramesAreSeen) (first : ℕ) (peer : PeerView) (frame : FullFrame) (now : ℕ) (o : Option NamedLeg)
     → AreLegs peer.legs → found peer.legs frame ≡ o
-    → IsSeenDatagram peer.legs (delivered_step first peer (delivered peer.drains peer.rules peer.pokes o frame now) frame now)
+    → IsSeenDatagram peer.legs (delivered_step first peer (delivered (closed_to_calls peer) peer.rules peer.pokes o frame now) frame now)
 full_seen law first peer frame now (Some named) are is =
     inl (reached_seen law first peer named frame now (found_named peer.legs frame named are is))
 full_seen law first peer frame now None are is = unknown_seen first peer frame now
@@ -215,14 +216,23 @@ remote_media : (legs : PeerLegs) (first accepted source : ℕ) (span : MediaSpan
 remote_media legs first accepted source span are =
     media_at_seen legs first accepted (leg_of_remote legs source) span (λ named is. remote_named legs source named are is)
 
-entries_seen : (legs : PeerLegs) (first : ℕ) (timed : Bool) (at accepted : ℕ) (entries : List (ℕ × Option ℕ × List ℕ))
-    → AreLegs legs
-    → IsMedia legs (entries_media first legs timed at accepted entries).signals
-entries_seen legs first timed at accepted [] are = ([], refl)
-entries_seen legs first timed at accepted (entry ∷ entries) are =
-    both_media legs _ _ (remote_media legs first accepted entry.0 (entry_span timed at entry) are)
-    (entries_seen legs first timed (entry_span timed at entry).end
-    (accepted + (media_at first accepted (leg_of_remote legs entry.0) (entry_span timed at entry)).octets) entries are)
+-- the leg that takes an entry is that of its number
+taker_is : (share : Bool) (o : Option NamedLeg) (named : NamedLeg) → cond share None o ≡ Some named → o ≡ Some named
+taker_is true o named is = cc
+taker_is false o named is = is
+
+entries_seen : (legs : PeerLegs) (first : ℕ) (limited : Bool) (taken : List ℕ) (timed : Bool) (at accepted : ℕ)
+    (entries : List (ℕ × Option ℕ × List ℕ)) → AreLegs legs
+    → IsMedia legs (entries_media first legs limited taken timed at accepted entries).signals
+entries_seen legs first limited taken timed at accepted [] are = ([], refl)
+entries_seen legs first limited taken timed at accepted (entry ∷ entries) are =
+    let span = entry_span timed at entry in
+    let its = leg_of_remote legs entry.0 in
+    let leg = taker limited taken its in
+    both_media legs _ _ (media_at_seen legs first accepted leg span
+    (λ named is. remote_named legs entry.0 named are (taker_is (has_its_share limited taken its) its named is)))
+    (entries_seen legs first limited (taken_by taken leg) timed span.end
+    (accepted + (media_at first accepted leg span).octets) entries are)
 
 media_seen : (old : PeerLegs) (step : PeerStep) → step.peer.legs ≡ old → IsMedia old step.signals → step.step.touched ≡ None
     → IsSeenDatagram old step
@@ -238,4 +248,5 @@ datagram_seen law first peer (Mini mini) now are =
 datagram_seen law first peer (Video video) now are = nothing_seen peer.legs _ refl refl refl
 datagram_seen law first peer (Trunk trunk) now are =
     media_seen peer.legs _ refl
-    (entries_seen peer.legs first (is_timed trunk.command_data) 8 peer.accounts.accepted (map entry_item trunk.entries) are) refl
+    (entries_seen peer.legs first peer.rules.is_hardened [] (is_timed trunk.command_data) 8 peer.accounts.accepted
+    (map entry_item trunk.entries) are) refl

@@ -28,8 +28,8 @@ use Rattle.peer_legs.proofs.PlaceLaws.{placed_there, stands_at}
 use Rattle.peer_legs.proofs.RuleChanges.{number_fits}
 use Rattle.call_auth.specs.declared.call_token.CallTokens.{CallTokens}
 use Rattle.peer_lock.specs.Arrivals.{datagram_step, delivered_step}
-use Rattle.peer_lock.specs.Delivery.{Delivery, NeedsNumber, NoToken, Gets, Pongs, NoCall, delivered, drained_for, inval_for}
-use Rattle.peer_lock.specs.Delivery.{legless, pong_for, regrej_for, token_for}
+use Rattle.peer_lock.specs.Delivery.{Delivery, NeedsNumber, NoToken, Gets, Pongs, NoCall, closed_to_calls, delivered, inval_for}
+use Rattle.peer_lock.specs.Delivery.{legless, pong_for, regrej_for, reject_for, token_for}
 use Rattle.peer_lock.specs.Openings.{opens_in, opens_out}
 use Rattle.peer_lock.specs.Orders.{order_refused_by, refused_at, ordered_if, ordered_at, ordered_step, counted_media, short_media}
 use Rattle.peer_lock.specs.Orders.{queued_media, waiting_media, carried_media, with_media}
@@ -37,6 +37,7 @@ use Rattle.peer_lock.specs.Peer.{PeerView, flushed_if, with_datagram, with_sent}
 use Rattle.peer_lock.specs.Sides.{ComesToNone, TakesTurnAtLeg, TakesDatagram, SendsAtLeg, TakesNew, SendsNew}
 use Rattle.peer_lock.specs.SoundPeer.{IsSoundPeer}
 use Rattle.peer_lock.specs.Trunks.{has_any, flushes, goes_ahead, begins_next, is_full_for}
+use Rattle.peer_lock.specs.declared.steps.Rejection.{Rejection}
 use Rattle.trunk_packer.specs.Queue.{QueueEntry}
 use Rattle.peer_lock.proofs.Choices.{either}
 use Rattle.peer_lock.proofs.UnknownCalls.{of_each}
@@ -53,7 +54,7 @@ module _ (turns : (leg : LegState) (frame : FullFrame) (now : ℕ) → TakesTurn
     (sends : (leg : LegState) (frame : FullFrame) (now : ℕ) → SendsNumbered leg
     → HasSent (full_step leg frame now).leg (map spelling (full_step leg frame now).replies)) where
   unknown_side : (first : ℕ) (peer : PeerView) (frame : FullFrame) (now : ℕ)
-      → ComesToNone peer frame (delivered_step first peer (legless peer.drains peer.rules peer.pokes frame now) frame now).peer
+      → ComesToNone peer frame (delivered_step first peer (legless (closed_to_calls peer) peer.rules peer.pokes frame now) frame now).peer
   unknown_side first peer frame now =
       let P : Delivery → Type 0 = λ d. ComesToNone peer frame (delivered_step first peer d frame now).peer in
       let needs : P NeedsNumber = record { legs = refl; outbox = inl refl } in
@@ -61,17 +62,18 @@ module _ (turns : (leg : LegState) (frame : FullFrame) (now : ℕ) → TakesTurn
       let inval : P (Gets (inval_for frame.head)) = record { legs = refl; outbox = inr (inl refl) } in
       let pong : P (Gets (pong_for frame.head)) = record { legs = refl; outbox = inr (inr (inl refl)) } in
       let regrej : P (Gets (regrej_for frame.head)) = record { legs = refl; outbox = inr (inr (inr (inl refl))) } in
-      let drained : P (Gets (drained_for frame.head)) = record { legs = refl; outbox = inr (inr (inr (inr (inl refl)))) } in
+      let reject : (why : Rejection) → P (Gets (reject_for why frame.head)) =
+      λ why. record { legs = refl; outbox = inr (inr (inr (inr (inl (why, refl))))) } in
       let token : (tokens : CallTokens) → P (Gets (token_for tokens frame.head now)) =
       λ tokens. record { legs = refl; outbox = inr (inr (inr (inr (inr (tokens, now, refl))))) } in
       let no_call : P NoCall = record { legs = refl; outbox = inl refl } in
       let pongs : P Pongs = record { legs = refl; outbox = inl refl } in
-      of_each P peer.drains peer.rules peer.pokes frame now needs no_token no_call pongs inval pong regrej drained token
+      of_each P (closed_to_calls peer) peer.rules peer.pokes frame now needs no_token no_call pongs inval pong regrej reject token
 
   full_side : (first : ℕ) (peer : PeerView) (frame : FullFrame) (now : ℕ) (o : Option NamedLeg) → IsSoundPeer peer
       → found peer.legs frame ≡ o
-      → TakesTurnAtLeg peer frame (delivered_step first peer (delivered peer.drains peer.rules peer.pokes o frame now) frame
-      now).peer ⊎ ComesToNone peer frame (delivered_step first peer (delivered peer.drains peer.rules peer.pokes o frame now)
+      → TakesTurnAtLeg peer frame (delivered_step first peer (delivered (closed_to_calls peer) peer.rules peer.pokes o frame now) frame
+      now).peer ⊎ ComesToNone peer frame (delivered_step first peer (delivered (closed_to_calls peer) peer.rules peer.pokes o frame now)
       frame now).peer
   full_side first peer frame now None sound is = inr (unknown_side first peer frame now)
   full_side first peer frame now (Some named) sound is =

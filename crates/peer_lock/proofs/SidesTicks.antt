@@ -11,7 +11,7 @@ use Rattle.peer_legs.specs.Legs.{NamedLeg, PeerLegs, leg_at}
 use Rattle.peer_legs.proofs.PlaceLaws.{leg_at_place}
 use Rattle.outbox.specs.Outbox.{OutboxView, extended}
 use Rattle.peer_lock.specs.Peer.{PeerView, counted}
-use Rattle.peer_lock.specs.Pokes.{is_poke_due, poke_octets, pokes_sent}
+use Rattle.peer_lock.specs.Pokes.{is_poke_due, poke_octets, poke_stamp, pokes_sent}
 use Rattle.peer_lock.specs.Sides.{SendsAt, EachSends, IsAtMostPoke}
 use Rattle.peer_lock.specs.SoundPeer.{IsSoundPeer}
 use Rattle.peer_lock.specs.Ticks.{asked, legs_tick, place_tick, Ticks}
@@ -36,9 +36,9 @@ record SentFrom (places : List (Option NamedLeg)) (datagram : List ℕ) : Type 0
 none_sent : (P : List ℕ → Type 0) → All P []
 none_sent P = λ k d within. absurd (omega arith)
 
-at_most_poke : (due : Bool) (now : ℕ) → IsAtMostPoke (cond due (poke_octets now ∷ []) [])
-at_most_poke true now = inr (now, refl)
-at_most_poke false now = inl refl
+at_most_poke : (due : Bool) (timestamp : ℕ) → IsAtMostPoke (cond due (poke_octets timestamp ∷ []) [])
+at_most_poke true timestamp = inr (timestamp, refl)
+at_most_poke false timestamp = inl refl
 
 module _ (turns : (grown : Bool) (leg : LegState) (now : ℕ) → SendsAtMostOne leg (tick_step grown leg now).leg)
     (sends : (grown : Bool) (leg : LegState) (now : ℕ) → SendsNumbered leg
@@ -117,7 +117,7 @@ module _ (turns : (grown : Bool) (leg : LegState) (now : ℕ) → SendsAtMostOne
           sending = one.sending;
         };
         pokes = pokes_sent old.rules old.pokes now;
-        poke = at_most_poke (is_poke_due old.rules old.pokes now) now;
+        poke = at_most_poke (is_poke_due old.rules old.pokes now) (poke_stamp old.rules now);
         ahead = ahead.ahead;
         queued = ahead.queued;
         trunks = more.trunks;

@@ -1,8 +1,8 @@
 -- Media that waits for a trunk frame is sent.
-use Rattle.std.specs.Prelude.{nat_lt, not, ◌||◌}
+use Rattle.std.specs.Prelude.{nat_le, nat_lt, ◌||◌}
 use Rattle.std.proofs.Common.{◌≡◌, ◌≤◌, ◌<◌, ℕ, ◌+◌, ◌&&◌, Bool, true, false, cond, inl, inr, List, [], ◌∷◌, ◌++◌, Option, None}
 use Rattle.std.proofs.Common.{Some, length, ap, sym, refl, subst, ◌∙◌, arith}
-use Rattle.std.proofs.lemmas.Bool.{cases_Bool, ltb-true, ltb-false}
+use Rattle.std.proofs.lemmas.Bool.{cases_Bool, leb-false, ltb-true, ltb-false}
 use Rattle.std.proofs.lemmas.List.{append-nil}
 use Rattle.call_signals.specs.declared.rules.PeerRules.{PeerRules}
 use Rattle.iax_frames.specs.TrunkFrame.{head_len}
@@ -15,9 +15,10 @@ use Rattle.peer_legs.specs.Legs.{PeerLegs, with_leg}
 use Rattle.peer_lock.specs.Peer.{PeerView, flushed_if, with_sent}
 use Rattle.peer_lock.specs.Sides.{IsQueued}
 use Rattle.peer_lock.specs.Ticks.{Packs}
-use Rattle.peer_lock.specs.Trunks.{has_any, flushes, waits, goes_ahead, is_full_for, fills_frame, begins_next, is_due}
+use Rattle.peer_lock.specs.Trunks.{has_any, flushes, waits, goes_ahead, is_full_for, fills_frame, has_enough, most_entries, begins_next}
+use Rattle.peer_lock.specs.Trunks.{is_due}
 use Rattle.peer_lock.specs.Trunks.{outbox_after, queue_after, accounts_after}
-use Rattle.trunk_packer.specs.Queue.{QueueEntry, has_call, trunk_octets, trunk_spelling}
+use Rattle.trunk_packer.specs.Queue.{QueueEntry, call_entries, trunk_octets, trunk_spelling}
 
 -- ---- ahead of a leg's frames
 
@@ -181,7 +182,7 @@ next_fits rules queue number octets short waiting = elim (cases_Bool (begins_nex
   | inl e ↦ rw e (emptied queue)
   | inr e ↦ rw e (not_more 1400 (trunk_octets rules.trunk_timestamps queue + head_len rules.trunk_timestamps + octets)
       (second_false (waits rules) (is_full_for queue octets) (fills_frame rules.trunk_timestamps queue octets)
-      (not rules.trunk_timestamps && has_call number queue) e waiting))
+      (has_enough rules.trunk_timestamps queue number) e waiting))
 ]
   where
     emptied : (q : List QueueEntry) → trunk_octets rules.trunk_timestamps (queue_after true q) + head_len rules.trunk_timestamps
@@ -197,3 +198,35 @@ fits_next old goes new number octets goes_is is short =
     subst (λ (p : PeerView). waits p.rules ≡ true → trunk_octets p.rules.trunk_timestamps p.queue + head_len
     p.rules.trunk_timestamps + octets ≤ 1400)
     (sym (is ∙ ap (λ (b : Bool). flushed_if b old) goes_is)) (next_fits old.rules old.queue number octets short)
+
+-- one entry more of the call may be queued
+third_false : (a b c d : Bool) → (a && (b || (c || d))) ≡ false → a ≡ true → d ≡ false
+third_false true true c d e is = cc
+third_false true false true d e is = cc
+third_false true false false d e is = e
+third_false false b c d e is = cc
+
+fewer : (n m : ℕ) → nat_le n m ≡ false → m < n
+fewer n m e = leb-false n m e
+
+next_enters : (rules : PeerRules) (queue : List QueueEntry) (number octets : ℕ) → waits rules ≡ true
+    → call_entries number (queue_after (begins_next rules queue number octets) queue) < most_entries rules.trunk_timestamps
+next_enters rules queue number octets waiting = elim (cases_Bool (begins_next rules queue number octets)) [
+  | inl e ↦ rw e (emptied rules.trunk_timestamps queue)
+  | inr e ↦ rw e (fewer (most_entries rules.trunk_timestamps) (call_entries number queue)
+      (third_false (waits rules) (is_full_for queue octets) (fills_frame rules.trunk_timestamps queue octets)
+      (has_enough rules.trunk_timestamps queue number) e waiting))
+]
+  where
+    emptied : (timed : Bool) (q : List QueueEntry) → call_entries number (queue_after true q) < most_entries timed
+    emptied true [] = omega arith
+    emptied true (x ∷ q) = omega arith
+    emptied false [] = omega arith
+    emptied false (x ∷ q) = omega arith
+
+pub enters_next : (old : PeerView) (goes : Bool) (new : PeerView) (number octets : ℕ)
+    → goes ≡ begins_next old.rules old.queue number octets → new ≡ flushed_if goes old
+    → waits new.rules ≡ true → call_entries number new.queue < most_entries new.rules.trunk_timestamps
+enters_next old goes new number octets goes_is is =
+    subst (λ (p : PeerView). waits p.rules ≡ true → call_entries number p.queue < most_entries p.rules.trunk_timestamps)
+    (sym (is ∙ ap (λ (b : Bool). flushed_if b old) goes_is)) (next_enters old.rules old.queue number octets)

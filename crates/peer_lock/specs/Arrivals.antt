@@ -28,6 +28,7 @@ use Rattle.peer_legs.specs.Legs.{PeerLegs, NamedLeg, leg_of_remote}
 use Rattle.peer_accounts.specs.Grants.{granted}
 use Rattle.peer_lock.specs.Peer.{PeerView, PeerStep, handed_up, offer_with, leg_alone, no_leg, alone, with_datagram, with_step}
 use Rattle.peer_lock.specs.Pokes.{answered}
+use Rattle.peer_lock.specs.TrunkEntries.{drops_entries, taken_by, taker}
 use Rattle.peer_lock.specs.declared.errors.PeerError.{PeerError}
 use Rattle.peer_lock.specs.declared.errors.PeerError.TheVariants as errors
 use Rattle.peer_lock.specs.declared.steps.Rejection.{Rejection}
@@ -109,11 +110,13 @@ entries_len timed [] = 0
 entries_len timed (entry ∷ entries) = head_len timed + length entry.2 + entries_len timed entries
 
 -- the media of the entries of a trunk frame, in their order, the first of which has this place
-abbrev pub entries_media : ℕ → PeerLegs → Bool → ℕ → ℕ → List (ℕ × Option ℕ × List ℕ) → MediaTaken
-entries_media first legs timed at accepted [] = no_media
-entries_media first legs timed at accepted (entry ∷ entries) =
-    let now = media_at first accepted (leg_of_remote legs entry.0) (entry_span timed at entry) in
-    let later = entries_media first legs timed (entry_span timed at entry).end (accepted + now.octets) entries in
+abbrev pub entries_media : ℕ → PeerLegs → Bool → List ℕ → Bool → ℕ → ℕ → List (ℕ × Option ℕ × List ℕ) → MediaTaken
+entries_media first legs limited taken timed at accepted [] = no_media
+entries_media first legs limited taken timed at accepted (entry ∷ entries) =
+    let leg = taker limited taken (leg_of_remote legs entry.0) in
+    let now = media_at first accepted leg (entry_span timed at entry) in
+    let later = entries_media first legs limited (taken_by taken leg) timed (entry_span timed at entry).end
+    (accepted + now.octets) entries in
     record { signals = now.signals ++ later.signals; octets = now.octets + later.octets }
 
 -- a step that only accepts media
@@ -136,7 +139,13 @@ mini_media first peer mini =
 
 abbrev pub trunk_media : ℕ → PeerView → TrunkFrame → MediaTaken
 trunk_media first peer trunk =
-    entries_media first peer.legs (is_timed trunk.command_data) 8 peer.accounts.accepted (map entry_item trunk.entries)
+    entries_media first peer.legs peer.rules.is_hardened [] (is_timed trunk.command_data) 8 peer.accounts.accepted
+    (map entry_item trunk.entries)
+
+-- the rejection of a trunk frame of which entries are dropped
+abbrev pub trunk_rejected : PeerView → TrunkFrame → Option Rejection
+trunk_rejected peer trunk =
+    if drops_entries peer.legs peer.rules.is_hardened [] (map entry_item trunk.entries) then Some rejections.ManyEntries else None
 
 -- ---- the datagram
 
@@ -155,4 +164,5 @@ abbrev pub datagram_step : ℕ → PeerView → Datagram → ℕ → PeerStep
 datagram_step first peer (Full frame) now = delivered_step first peer (delivery peer frame now) frame now
 datagram_step first peer (Mini mini) now = media_step peer (mini_media first peer mini)
 datagram_step first peer (Video video) now = alone peer
-datagram_step first peer (Trunk trunk) now = media_step peer (trunk_media first peer trunk)
+datagram_step first peer (Trunk trunk) now =
+    record (media_step peer (trunk_media first peer trunk)) { step = record no_leg { rejected = trunk_rejected peer trunk } }

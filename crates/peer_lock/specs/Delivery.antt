@@ -1,13 +1,13 @@
 -- The delivery of a full frame ("Full Frames", "INVAL", "NEW"), and the answer to one that no leg has ("POKE", "REJECT",
 -- "REGREJ"). Call tokens are chan_iax2's; RFC 5456 has none.
 use Rattle.std.specs.Prelude.{◌≡◌, ℕ, ◌+◌, ◌/◌, ◌%◌, ◌==◌, ◌&&◌, ◌||◌, Bool, true, false, List, [], ◌∷◌, Option, None, Some}
-use Rattle.std.specs.Prelude.{if◌then◌else◌}
+use Rattle.std.specs.Prelude.{option_map, if◌then◌else◌}
 use Rattle.call_auth.specs.CallToken.{call_token, is_given}
 use Rattle.call_auth.specs.declared.call_token.CallTokens.{CallTokens}
 use Rattle.iax_frames.specs.FullFrame.{FullFrame, spelling}
 use Rattle.iax_frames.specs.declared.full_frame.FullHead.{FullHead}
-use Rattle.leg_machine.specs.Leg.{is_record_full}
 use Rattle.leg_machine.specs.Message.{message_of, is_numbered}
+use Rattle.leg_machine.specs.Working.{frame_refused}
 use Rattle.call_signals.specs.Codes.{FRAME_IAX, IAX_CALLTOKEN, IAX_INVAL, IAX_PONG, IAX_REJECT, IAX_REGREQ, IAX_REGREJ}
 use Rattle.call_signals.specs.Codes.{IAX_REGREL}
 use Rattle.call_signals.specs.FrameElements.{element_in}
@@ -18,12 +18,15 @@ use Rattle.call_signals.specs.declared.message.Message.TheVariants.{New, Poke}
 use Rattle.call_signals.specs.declared.rules.PeerRules.{PeerRules}
 use Rattle.info_elements.specs.Numbers.{CALLTOKEN}
 pub use Rattle.peer_legs.specs.Finding.{is_reached, can_reach, if_reached, found}
+use Rattle.peer_legs.specs.Challenges.{is_crowded}
 use Rattle.peer_legs.specs.Legs.{NamedLeg}
+use Rattle.peer_lock.specs.Errors.{from_step}
 use Rattle.peer_lock.specs.Peer.{PeerView}
 use Rattle.peer_lock.specs.Pokes.{NO_CALL, answers_poke, is_own_pong}
 use Rattle.peer_lock.specs.declared.pokes.Pokes.{Pokes}
 use Rattle.peer_lock.specs.declared.errors.PeerError.{PeerError}
 use Rattle.peer_lock.specs.declared.errors.PeerError.TheVariants as errors
+use Rattle.peer_lock.specs.declared.steps.Rejection.{Rejection}
 use Rattle.peer_lock.specs.declared.steps.Rejection.TheVariants as rejections
 use Rattle.peer_lock.specs.declared.unknown_calls.Answer.{Answer}
 use Rattle.peer_lock.specs.declared.unknown_calls.AnswerData.{AnswerData}
@@ -100,15 +103,9 @@ answer_head head subclass = record {
 abbrev pub pong_for : FullHead → Answer
 pong_for head = record { head = answer_head head IAX_PONG; rejected = None; says = data_of.Nothing }
 
--- REJECT to a NEW for which no number is free ("REJECT"): congestion
-abbrev pub reject_for : FullHead → Answer
-reject_for head =
-    record { head = answer_head head IAX_REJECT; rejected = Some rejections.NoNumber; says = data_of.Why Congestion }
-
--- REJECT to a NEW at a peer that drains ("REJECT"): congestion
-abbrev pub drained_for : FullHead → Answer
-drained_for head =
-    record { head = answer_head head IAX_REJECT; rejected = Some rejections.Draining; says = data_of.Why Congestion }
+-- REJECT to a NEW that isn't let in ("REJECT"): congestion
+abbrev pub reject_for : Rejection → FullHead → Answer
+reject_for why head = record { head = answer_head head IAX_REJECT; rejected = Some why; says = data_of.Why Congestion }
 
 -- REGREJ to a REGREQ or a REGREL ("REGREJ"): facility rejected, by Q.850
 abbrev pub regrej_for : FullHead → Answer
@@ -126,57 +123,76 @@ token_for tokens head now =
 
 -- ---- delivery
 
--- a NEW that no leg has, by the element CALLTOKEN: without one it is refused, an empty one asks for a token
-abbrev pub by_token : CallTokens → FullHead → ℕ → Option (List ℕ) → Delivery
-by_token tokens head now None = NoToken
-by_token tokens head now (Some []) = Gets (token_for tokens head now)
-by_token tokens head now (Some (digit ∷ digits)) =
-    if is_given tokens now (digit ∷ digits) then NeedsNumber else NoToken
+-- Why a peer lets no NEW in: it drains, or, in plan version 4, legs that wait for the answer to a challenge have half of its
+-- numbers.
+abbrev pub closed_to_calls : PeerView → Option Rejection
+closed_to_calls peer =
+    if peer.drains then Some rejections.Draining
+    else if peer.rules.is_hardened && is_crowded peer.legs then Some rejections.NoNumber
+    else None
+
+-- a NEW that no leg has and that needs no further token
+abbrev pub let_in : Option Rejection → FullHead → Delivery
+let_in None head = NeedsNumber
+let_in (Some why) head = Gets (reject_for why head)
+
+-- .. by the element CALLTOKEN: without one it is refused, an empty one asks for a token
+abbrev pub by_token : Option Rejection → CallTokens → FullHead → ℕ → Option (List ℕ) → Delivery
+by_token closed tokens head now None = NoToken
+by_token closed tokens head now (Some []) = Gets (token_for tokens head now)
+by_token closed tokens head now (Some (digit ∷ digits)) =
+    if is_given tokens now (digit ∷ digits) then let_in closed head else NoToken
 
 -- a NEW that no leg has; it needs a token if its peer needs tokens
-abbrev pub welcome : Option CallTokens → FullFrame → ℕ → Delivery
-welcome None frame now = NeedsNumber
-welcome (Some tokens) frame now = by_token tokens frame.head now (element_in frame CALLTOKEN)
+abbrev pub newcomer : Option Rejection → Option CallTokens → FullFrame → ℕ → Delivery
+newcomer closed None frame now = let_in closed frame.head
+newcomer closed (Some tokens) frame now = by_token closed tokens frame.head now (element_in frame CALLTOKEN)
 
--- .. unless the peer drains
-abbrev pub newcomer : Bool → Option CallTokens → FullFrame → ℕ → Delivery
-newcomer drains tokens frame now = if drains then Gets (drained_for frame.head) else welcome tokens frame now
-
--- no leg is found, and it is no PONG to a POKE: by whether the peer drains and by its rules
-abbrev pub unknown_call : Bool → PeerRules → FullFrame → ℕ → Delivery
-unknown_call drains rules frame now =
+-- no leg is found, and it is no PONG to a POKE: by whether the peer is closed to calls, and by its rules
+abbrev pub unknown_call : Option Rejection → PeerRules → FullFrame → ℕ → Delivery
+unknown_call closed rules frame now =
     if frame.head.destination == 0
-    then (if is_new (message_of frame.head) && (frame.head.oseqno == 0) then newcomer drains rules.call_tokens frame now
+    then (if is_new (message_of frame.head) && (frame.head.oseqno == 0) then newcomer closed rules.call_tokens frame now
     else if rules.poke && is_poke (message_of frame.head) then Gets (pong_for frame.head)
     else if rules.is_hardened && is_registration frame.head then Gets (regrej_for frame.head) else NoCall)
     else (if is_numbered (message_of frame.head) then Gets (inval_for frame.head) else NoCall)
 
 -- no leg is found
-abbrev pub legless : Bool → PeerRules → Pokes → FullFrame → ℕ → Delivery
-legless drains rules pokes frame now =
-    if is_own_pong rules frame.head then (if answers_poke pokes frame.head then Pongs else NoCall)
-    else unknown_call drains rules frame now
+abbrev pub legless : Option Rejection → PeerRules → Pokes → FullFrame → ℕ → Delivery
+legless closed rules pokes frame now =
+    if is_own_pong rules frame.head then (if answers_poke rules pokes frame.head then Pongs else NoCall)
+    else unknown_call closed rules frame now
 
-abbrev pub delivered : Bool → PeerRules → Pokes → Option NamedLeg → FullFrame → ℕ → Delivery
-delivered drains rules pokes (Some named) frame now = Reaches named
-delivered drains rules pokes None frame now = legless drains rules pokes frame now
+abbrev pub delivered : Option Rejection → PeerRules → Pokes → Option NamedLeg → FullFrame → ℕ → Delivery
+delivered closed rules pokes (Some named) frame now = Reaches named
+delivered closed rules pokes None frame now = legless closed rules pokes frame now
 
 abbrev pub delivery : PeerView → FullFrame → ℕ → Delivery
-delivery peer frame now = delivered peer.drains peer.rules peer.pokes (found peer.legs frame) frame now
+delivery peer frame now = delivered (closed_to_calls peer) peer.rules peer.pokes (found peer.legs frame) frame now
 
 -- ---- refusals
 
--- why a delivered frame is refused, memory aside
+-- why the leg that gets a frame refuses it, memory aside
+abbrev pub leg_refused : NamedLeg → FullFrame → Option PeerError
+leg_refused named frame = option_map from_step (frame_refused named.leg frame)
+
+-- why a delivered frame is refused, unless a leg gets it
 abbrev pub delivery_refused : Delivery → Option PeerError
-delivery_refused (Reaches named) = if is_record_full named.leg then Some errors.RecordFull else None
+delivery_refused (Reaches named) = None
 delivery_refused NeedsNumber = Some errors.NeedsNumber
 delivery_refused NoToken = Some errors.NoToken
 delivery_refused (Gets answer) = None
 delivery_refused Pongs = None
 delivery_refused NoCall = Some errors.NoCall
 
+-- .. by the leg that was found, if there is one
+abbrev pub found_refused : Option NamedLeg → Delivery → FullFrame → Option PeerError
+found_refused (Some named) delivery frame = leg_refused named frame
+found_refused None delivery frame = delivery_refused delivery
+
+-- why a full frame is refused, memory aside
 abbrev pub full_refused : PeerView → FullFrame → ℕ → Option PeerError
-full_refused peer frame now = delivery_refused (delivery peer frame now)
+full_refused peer frame now = found_refused (found peer.legs frame) (delivery peer frame now) frame
 
 -- ---- call tokens
 

@@ -12,6 +12,8 @@ use Rattle.peer_lock.specs.declared.errors.PeerError.TheVariants as errors
 
 abbrev pub from_step : StepError → PeerError
 from_step step_errors.RecordFull = errors.RecordFull
+from_step step_errors.Unaddressed = errors.Unaddressed
+from_step step_errors.NewUnacknowledged = errors.NewUnacknowledged
 from_step step_errors.Memory = errors.Memory
 
 abbrev pub from_frame : FrameError → PeerError

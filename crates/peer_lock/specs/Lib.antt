@@ -17,6 +17,7 @@ pub mod Sides
 pub mod SoundPeer
 pub mod Statuses
 pub mod Ticks
+pub mod TrunkEntries
 pub mod Trunks
 pub mod Unworked
 pub use Rattle.outbox.specs.Outbox

@@ -22,6 +22,7 @@ use Rattle.peer_lock.specs.declared.errors.OpenError.{OpenError}
 use Rattle.peer_lock.specs.declared.errors.OpenError.TheVariants as errors
 use Rattle.peer_lock.specs.declared.errors.RejectError.{RejectError}
 use Rattle.peer_lock.specs.declared.errors.RejectError.TheVariants as reject_errors
+use Rattle.peer_lock.specs.declared.steps.Rejection.TheVariants as rejections
 use Rattle.peer_lock.specs.declared.steps.Step.{Step}
 
 -- a NEW that opens a leg: it has no destination and OSeqno 0, and a leg is looked for
@@ -36,7 +37,7 @@ abbrev pub open_in_refused : PeerView → ℕ → LegName → ℕ → Option Ope
 open_in_refused peer credit name source =
     if peer.accounts.steps == credit then Some errors.StepsSpent
     else if not (is_free_name peer.legs name) then Some errors.NumberBusy
-    else if peer.drains then Some errors.NumberBusy
+    else if peer.drains then Some errors.Draining
     else if is_some (leg_of_remote peer.legs source) then Some errors.RemoteBusy
     else None
 
@@ -96,7 +97,7 @@ opens_out peer name called caller format now =
 
 -- a NEW is rejected because no number is free
 abbrev pub rejects_new : PeerView → FullFrame → PeerStep
-rejects_new peer frame = answering peer (reject_for frame.head)
+rejects_new peer frame = answering peer (reject_for rejections.NoNumber frame.head)
 
 -- ---- the calls. `first_steps` is the step credit with which every peer begins, and the credits are those of the pass.
 

@@ -38,13 +38,17 @@ is_poke_due rules pokes now = nat_le 1 rules.qualify_ms && has_waited pokes.last
 
 -- ---- what goes out
 
--- a POKE bears the moment, modulo 2 ^ 32, and belongs to no call
+-- the timestamp of a POKE: the moment and the drawn offset, modulo 2 ^ 32
+abbrev pub poke_stamp : PeerRules → ℕ → ℕ
+poke_stamp rules now = (now % 2 ^ 32 + rules.poke_offset) % 2 ^ 32
+
+-- a POKE with a timestamp, which belongs to no call
 abbrev pub poke_head : ℕ → FullHead
-poke_head now = record {
+poke_head timestamp = record {
   source = NO_CALL;
   retransmitted = false;
   destination = 0;
-  timestamp = now % 2 ^ 32;
+  timestamp = timestamp;
   oseqno = 0;
   iseqno = 0;
   frame_type = FRAME_IAX;
@@ -52,11 +56,11 @@ poke_head now = record {
 }
 
 abbrev pub poke_octets : ℕ → List ℕ
-poke_octets now = spelling (record { head = poke_head now; payload = [] })
+poke_octets timestamp = spelling (record { head = poke_head timestamp; payload = [] })
 
 -- the POKE that a tick sends, if one is due
 abbrev pub pokes_sent : PeerRules → Pokes → ℕ → List (List ℕ)
-pokes_sent rules pokes now = if is_poke_due rules pokes now then poke_octets now ∷ [] else []
+pokes_sent rules pokes now = if is_poke_due rules pokes now then poke_octets (poke_stamp rules now) ∷ [] else []
 
 -- the moment at which the last run without an answer began, once the next run begins
 abbrev pub silent_then : PeerRules → Pokes → Option ℕ
@@ -90,13 +94,13 @@ is_pong _ = false
 abbrev pub is_own_pong : PeerRules → FullHead → Bool
 is_own_pong rules head = ((head.destination == NO_CALL) && rules.is_hardened) && is_pong (message_of head)
 
-abbrev pub is_stamped : Option ℕ → ℕ → Bool
-is_stamped None timestamp = false
-is_stamped (Some last) timestamp = (last % 2 ^ 32) == timestamp
+abbrev pub is_stamped : PeerRules → Option ℕ → ℕ → Bool
+is_stamped rules None timestamp = false
+is_stamped rules (Some last) timestamp = poke_stamp rules last == timestamp
 
 -- it answers the last POKE, which has no answer yet: it bears its timestamp
-abbrev pub answers_poke : Pokes → FullHead → Bool
-answers_poke pokes head = nat_le 1 pokes.unanswered && is_stamped pokes.last head.timestamp
+abbrev pub answers_poke : PeerRules → Pokes → FullHead → Bool
+answers_poke rules pokes head = nat_le 1 pokes.unanswered && is_stamped rules pokes.last head.timestamp
 
 -- after that PONG
 abbrev pub answered : Pokes → ℕ → Pokes

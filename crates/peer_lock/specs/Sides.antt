@@ -13,10 +13,12 @@ use Rattle.leg_machine.specs.Leg.{LegState}
 use Rattle.leg_machine.specs.Tie.{numbered_frame, TakesTurn, SendsAtMostOne, TakesFirstTurn, HasSentAtMostOne}
 use Rattle.leg_machine.specs.Tie.{IsSendingOf, IsSending, IsSendingOrMini}
 use Rattle.peer_legs.specs.Legs.{PeerLegs, NamedLeg, leg_at, with_leg, with_place}
-use Rattle.peer_lock.specs.Delivery.{drained_for, answer_octets, inval_for, pong_for, regrej_for, reject_for, token_for}
+use Rattle.peer_lock.specs.Delivery.{answer_octets, inval_for, pong_for, regrej_for, reject_for, token_for}
 use Rattle.outbox.specs.Outbox.{put, extended}
 use Rattle.peer_lock.specs.Peer.{PeerView}
 use Rattle.peer_lock.specs.Pokes.{poke_octets}
+use Rattle.peer_lock.specs.declared.steps.Rejection.{Rejection}
+use Rattle.peer_lock.specs.declared.steps.Rejection.TheVariants.{NoNumber}
 use Rattle.peer_lock.specs.declared.unknown_calls.Answer.{Answer}
 use Rattle.trunk_packer.specs.Queue.{trunk_spelling}
 use Rattle.seq_window.specs.Network.{Action, SendNumbered, SendUnnumbered, Retransmit, JudgeAcknowledgement, JudgeNumber}
@@ -59,13 +61,13 @@ SendsAnswer old answer new = new.outbox ≡ put old.outbox (answer_octets answer
 pub record ComesToNone (old : PeerView) (frame : FullFrame) (new : PeerView) : Type 0 where
   pub legs : new.legs ≡ old.legs
   pub outbox : (new.outbox ≡ old.outbox) ⊎ SendsAnswer old (inval_for frame.head) new ⊎ SendsAnswer old (pong_for frame.head) new
-      ⊎ SendsAnswer old (regrej_for frame.head) new ⊎ SendsAnswer old (drained_for frame.head) new
+      ⊎ SendsAnswer old (regrej_for frame.head) new ⊎ ((why : Rejection) × SendsAnswer old (reject_for why frame.head) new)
       ⊎ ((tokens : CallTokens) × (now : ℕ) × SendsAnswer old (token_for tokens frame.head now) new)
 
 -- a NEW finds no number: no leg changes, and a REJECT is sent
 pub record RejectsNew (old : PeerView) (frame : FullFrame) (new : PeerView) : Type 0 where
   pub legs : new.legs ≡ old.legs
-  pub outbox : SendsAnswer old (reject_for frame.head) new
+  pub outbox : SendsAnswer old (reject_for NoNumber frame.head) new
 
 -- no leg changes, and nothing is sent
 pub record SendsNothing (old new : PeerView) : Type 0 where
@@ -129,7 +131,7 @@ pub record IsSendingOfOne (legs : PeerLegs) (datagram : List ℕ) : Type 0 where
 
 -- these datagrams are at most one POKE, which belongs to no call
 abbrev pub IsAtMostPoke : List (List ℕ) → Type 0
-IsAtMostPoke datagrams = (datagrams ≡ []) ⊎ ((now : ℕ) × (datagrams ≡ poke_octets now ∷ []))
+IsAtMostPoke datagrams = (datagrams ≡ []) ⊎ ((timestamp : ℕ) × (datagrams ≡ poke_octets timestamp ∷ []))
 
 -- A POKE may come first. Each leg ticks separately, and each frame that the legs send is a sending from the record of one of
 -- them, behind media that was queued. Then come trunk frames.

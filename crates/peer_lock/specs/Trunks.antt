@@ -1,12 +1,12 @@
 -- Media that waits for a trunk frame to fill ("Meta Frames").
-use Rattle.std.specs.Prelude.{ℕ, ◌+◌, ◌-◌, ◌&&◌, ◌||◌, not, nat_le, nat_lt, is_some, Bool, true, false, List, [], ◌∷◌, Option}
+use Rattle.std.specs.Prelude.{ℕ, ◌+◌, ◌-◌, ◌&&◌, ◌||◌, nat_le, nat_lt, is_some, Bool, true, false, List, [], ◌∷◌, Option}
 use Rattle.std.specs.Prelude.{None, Some, length}
 use Rattle.std.specs.Prelude.{if◌then◌else◌}
 use Rattle.iax_frames.specs.TrunkFrame.{head_len}
 use Rattle.call_signals.specs.declared.rules.PeerRules.{PeerRules}
 use Rattle.outbox.specs.Outbox.{OutboxView, put}
 use Rattle.peer_accounts.specs.Accounts.{Accounts}
-use Rattle.trunk_packer.specs.Queue.{QueueEntry, media_octets, has_call, trunk_octets, trunk_spelling}
+use Rattle.trunk_packer.specs.Queue.{QueueEntry, media_octets, call_entries, has_call, trunk_octets, trunk_spelling}
 
 abbrev pub has_any : {A : Type 0} → List A → Bool
 has_any [] = false
@@ -26,10 +26,18 @@ is_full_for queue octets = nat_le 256 (length queue) || nat_lt 16384 (media_octe
 abbrev pub fills_frame : Bool → List QueueEntry → ℕ → Bool
 fills_frame timed queue octets = nat_lt 1400 (trunk_octets timed queue + head_len timed + octets)
 
--- Media of this length begins the next frame. Without timestamps a receiver would give two entries of a call one moment.
+-- The greatest number of entries of one call in a frame. Without timestamps a receiver would give two of them one moment.
+abbrev pub most_entries : Bool → ℕ
+most_entries timed = if timed then 16 else 1
+
+-- the frame of the queued media has as many entries of the call as it may have
+abbrev pub has_enough : Bool → List QueueEntry → ℕ → Bool
+has_enough timed queue number = nat_le (most_entries timed) (call_entries number queue)
+
+-- media of this length begins the next frame
 abbrev pub begins_next : PeerRules → List QueueEntry → ℕ → ℕ → Bool
 begins_next rules queue number octets = waits rules && (is_full_for queue octets
-    || (fills_frame rules.trunk_timestamps queue octets || (not rules.trunk_timestamps && has_call number queue)))
+    || (fills_frame rules.trunk_timestamps queue octets || has_enough rules.trunk_timestamps queue number))
 
 -- media of the call is queued, and is sent ahead of its full frames
 abbrev pub goes_ahead : PeerRules → List QueueEntry → ℕ → Bool

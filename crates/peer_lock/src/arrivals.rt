@@ -1,15 +1,15 @@
 //! The steps of a peer by which it handles a datagram ("Full Frames", "Mini Frames", "Meta Frames").
 ghost use Rattle.std.specs.Prelude.{◌≡◌, ◌≢◌, ◌+◌, ◌-◌, ◌<◌, ◌≤◌, ◌⊎◌, ◌↔◌, [], length, map, true, None, Some, Err, IsSome, IfOk};
 ghost use Rattle.std.specs.Prelude.{IfErr, OnOk, OnErr, IsTrue};
-ghost use Rattle.leg_machine.specs.Leg.{is_record_full};
 ghost use Rattle.leg_machine.specs.Steps.{full_step, heard_of};
+ghost use Rattle.leg_machine.specs.Working.{frame_refused, IsFrameRefusal};
 ghost use Rattle.peer_accounts.specs.Accounts.{stepped, with_accepted, with_step as with_credit};
 ghost use Rattle.peer_accounts.specs.Grants.{granted};
 ghost use Rattle.iax_frames.specs.FullFrame.{spelling};
 ghost use Rattle.peer_lock.specs.Arrivals as spec_of;
 ghost use Rattle.peer_lock.specs.Arrivals.{reached_step, delivered_step, datagram_step, datagram_refused};
 ghost use Rattle.peer_legs.specs.Finding.{can_reach, found};
-ghost use Rattle.peer_lock.specs.Delivery.{delivery, delivery_refused, full_refused, Reaches};
+ghost use Rattle.peer_lock.specs.Delivery.{delivery, full_refused, leg_refused};
 ghost use Rattle.peer_legs.specs.Legs.{NamedLeg as NamedLegValue, leg_at, with_leg};
 ghost use Rattle.peer_accounts.specs.HandedUp.{IsNothing};
 ghost use Rattle.peer_lock.specs.Makes.{Makes, IsUnchanged, IsDue, WasHandled};
@@ -98,8 +98,10 @@ impl<J: LedgerSet> PeerState<J> {
         ensures kept { OnOk result (IsSome (leg_at self.new.legs number)) }
         ensures there { OnOk result ((named : NamedLegValue) → leg_at self.old.legs number ≡ Some named
             → leg_at self.new.legs number ≡ Some (record { name = named.name; leg = (full_step named.leg frame.now now).leg })) }
-        ensures record_full { (named : NamedLegValue) → leg_at self.old.legs number ≡ Some named →
-            (result ≡ Err StepError.RecordFull) ↔ (is_record_full named.leg ≡ true) }
+        ensures unrefused { (named : NamedLegValue) → leg_at self.old.legs number ≡ Some named →
+            OnOk result (frame_refused named.leg frame.now ≡ None) }
+        ensures refused { (named : NamedLegValue) → leg_at self.old.legs number ≡ Some named →
+            IfErr result (IsFrameRefusal (frame_refused named.leg frame.now)) }
         ensures err { OnErr result (self.new ≡ self.old) }
         ensures no_memory { result ≡ Err StepError.Memory → WasRefused }
     {
@@ -177,14 +179,14 @@ impl<J: LedgerSet> PeerState<J> {
         ensures made { IfOk result (λ step. (named : NamedLegValue) → leg_at self.old.legs number ≡ Some named
             → Makes (reached_step J.first_octets self.old named frame.now now) self.new step pass.old pass.new onwards.new) }
         ensures unrefused { OnOk result ((named : NamedLegValue) → leg_at self.old.legs number ≡ Some named →
-            delivery_refused (Reaches named) ≡ None) }
+            leg_refused named frame.now ≡ None) }
         ensures refused { IfErr result (λ e. (named : NamedLegValue) → leg_at self.old.legs number ≡ Some named →
-            IsDue (delivery_refused (Reaches named)) e) }
+            IsDue (leg_refused named frame.now) e) }
         ensures err { OnErr result (IsUnchanged self.old self.new pass.old pass.new onwards.new) }
         ensures no_memory { result ≡ Err PeerError.Memory → WasRefused }
     {
-        if self.legs.is_record_full(number) {
-            return Err(PeerError::RecordFull);
+        if let Some(error) = self.legs.frame_refused(number, frame) {
+            return Err(PeerError::from(error));
         }
         onwards.reserve(1)?;
         let heard = self.hear(number, frame, now)?;
@@ -251,6 +253,7 @@ impl<J: LedgerSet> PeerState<J> {
         ensures no_memory { result ≡ Err PeerError.Memory → WasRefused }
         ensures memory { result ≡ Err PeerError.Memory → MayAsk self.old onwards.old.room datagram.now }
     {
+        let mut rejected = None;
         match datagram {
             Datagram::Full(frame) => return self.full(pass, frame, now, onwards),
             Datagram::Mini(mini) => {
@@ -267,14 +270,16 @@ impl<J: LedgerSet> PeerState<J> {
             Datagram::Video(_) => {}
             Datagram::Trunk(trunk) => {
                 onwards.reserve(ENTRIES)?;
-                self.take_entries(pass, trunk, onwards);
+                if self.take_entries(pass, trunk, onwards) {
+                    rejected = Some(Rejection::ManyEntries);
+                }
             }
         }
         self.account.count_step(pass);
         Ok(Step {
             judged: Judged::Unnumbered,
             touched: None,
-            rejected: None,
+            rejected,
         })
     }
 
@@ -282,8 +287,8 @@ impl<J: LedgerSet> PeerState<J> {
     /// leg that it concerns, if any. The signals handed up are written to the empty list.
     ///
     /// Refusals are checked in this order, as `PeerError` describes them: `StepsSpent`, `TooLong`, `Short`, `MetaCommand`,
-    /// `EntryCut`, `NoSource`, `Cut`, `NeedsNumber`, `NoToken`, `NoCall`, `RecordFull`, `Memory`. `Memory` is returned only
-    /// if memory was refused. Then nothing is changed.
+    /// `EntryCut`, `NoSource`, `Cut`, `NeedsNumber`, `NoToken`, `NoCall`, `RecordFull`, `Unaddressed`,
+    /// `NewUnacknowledged`, `Memory`. `Memory` is returned only if memory was refused. Then nothing is changed.
     pub fn datagram(
         &mut self,
         pass: &mut Pass<J>,

@@ -36,6 +36,10 @@ pub enum PeerError {
     NoCall,
     /// The leg's record has no room for one more full frame and its answer.
     RecordFull,
+    /// A frame of destination 0 for a leg whose peer knows its number.
+    Unaddressed,
+    /// An answer to a NEW that isn't acknowledged.
+    NewUnacknowledged,
     /// A request for memory was refused.
     Memory,
 }
@@ -45,8 +49,10 @@ pub enum PeerError {
 pub enum OpenError {
     /// The peer has no step credit left.
     StepsSpent,
-    /// A leg has that number, the lease isn't of this peer and its range, or the peer drains and a NEW came.
+    /// A leg has that number, or the lease isn't of this peer and its range.
     NumberBusy,
+    /// The peer drains, and a NEW came.
+    Draining,
     /// A leg has that remote number already.
     RemoteBusy,
     /// A request for memory was refused.
@@ -95,6 +101,8 @@ impl From<StepError> for PeerError {
     fn from(error: StepError) -> PeerError {
         match error {
             StepError::RecordFull => PeerError::RecordFull,
+            StepError::Unaddressed => PeerError::Unaddressed,
+            StepError::NewUnacknowledged => PeerError::NewUnacknowledged,
             StepError::Memory => PeerError::Memory,
         }
     }

@@ -1,12 +1,15 @@
 //! Laws of every step of a peer.
-ghost use Rattle.std.specs.Prelude.{◌≡◌, ◌≢◌, ◌+◌, ◌≤◌, ◌⊎◌, ℕ, true, false, length, List, All, Option, None, Some, slice_get};
+ghost use Rattle.std.specs.Prelude.{◌≡◌, ◌≢◌, ◌+◌, ◌<◌, ◌≤◌, ◌⊎◌, ℕ, true, false, length, List, [], ◌∷◌, All, Option, None};
+ghost use Rattle.std.specs.Prelude.{Some, slice_get};
 ghost use Rattle.std.specs.List.{AllByRecursion};
 ghost use Rattle.call_auth.specs.declared.call_token.CallTokens.{CallTokens};
 ghost use Rattle.call_book.specs.declared.leg_name.LegName.{LegName};
 ghost use Rattle.iax_frames.specs.Datagram.{Spells};
 ghost use Rattle.iax_frames.specs.FullFrame.{FullFrame};
+ghost use Rattle.iax_frames.specs.declared.full_frame.FullHead.{FullHead};
 ghost use Rattle.iax_frames.specs.declared.datagram.Datagram.{Datagram};
-ghost use Rattle.iax_frames.specs.declared.datagram.Datagram.TheVariants.{Full};
+ghost use Rattle.iax_frames.specs.TrunkFrame.{TrunkFrame};
+ghost use Rattle.iax_frames.specs.declared.datagram.Datagram.TheVariants.{Full, Trunk};
 ghost use Rattle.call_signals.specs.Message.{is_vnak, message_of};
 ghost use Rattle.leg_machine.specs.Leg.{LegState};
 ghost use Rattle.leg_machine.specs.Media.{media_sent};
@@ -20,10 +23,11 @@ ghost use Rattle.call_signals.specs.Order.{media_of, Order};
 ghost use Rattle.call_signals.specs.declared.order.Command.TheVariants.{Media};
 ghost use Rattle.call_signals.specs.declared.rules.PeerRules.{PeerRules};
 ghost use Rattle.call_signals.specs.declared.stage.Stage.TheVariants.{Ended};
-ghost use Rattle.peer_lock.specs.Arrivals.{datagram_step};
+ghost use Rattle.peer_lock.specs.Arrivals.{datagram_step, trunk_rejected};
 ghost use Rattle.peer_lock.specs.CarriedMedia.{Ascends, CarriesItsOwn, HasNoSpan};
 ghost use Rattle.peer_lock.specs.CarriedOn.{CarriedOn, CarriesByOrder, CarriesOn, KeepsOrder, followed_by, nothing};
-ghost use Rattle.peer_lock.specs.Delivery.{BearsToken, Gets, delivery, drained_for, found, full_refused, is_new};
+ghost use Rattle.peer_lock.specs.Delivery.{BearsToken, Gets, delivery, full_refused, is_new, reject_for};
+ghost use Rattle.peer_legs.specs.Challenges.{is_crowded};
 ghost use Rattle.peer_legs.specs.Legs.{AreLegs, IsLegOf, PeerLegs, NamedLeg, leg_at, leg_named, with_place};
 ghost use Rattle.peer_legs.specs.Legs.{is_free_name};
 ghost use Rattle.peer_lock.specs.Loads.{Load, Puts, datagram_load, load_of, no_load, order_load, plus, tick_load};
@@ -35,13 +39,19 @@ ghost use Rattle.peer_lock.specs.Seen.{RejectsNew as SeenToReject};
 ghost use Rattle.peer_lock.specs.Sides.{TakesDatagram, TakesTurnAtLeg, TakesNew, RejectsNew, SendsNew, SendsAtLeg, EachSends};
 ghost use Rattle.peer_lock.specs.Sides.{IsSideOf, Bears, HasDatagram, IsSentBy, IsSentByOrMini, IsSentFrom, SendsAll, TurnsInto};
 ghost use Rattle.peer_lock.specs.Sides.{SendsInto, unused_side};
+ghost use Rattle.peer_lock.specs.Pokes.{answered, answers_poke, poke_octets, poke_stamp, pokes_after, pokes_sent};
+ghost use Rattle.peer_lock.specs.Pokes.{unanswered_since};
 ghost use Rattle.peer_lock.specs.SoundPeer.{IsSoundPeer};
 ghost use Rattle.peer_lock.specs.Statuses.{is_done};
 ghost use Rattle.peer_lock.specs.Ticks.{RestsAt, Ticks};
+ghost use Rattle.peer_lock.specs.TrunkEntries.{handed_by};
 ghost use Rattle.peer_lock.specs.Trunks.{waits};
+ghost use Rattle.peer_lock.specs.declared.errors.OpenError.TheVariants as open_errors;
 ghost use Rattle.peer_lock.specs.declared.errors.OrderError.{OrderError};
 ghost use Rattle.peer_lock.specs.declared.errors.OrderError.TheVariants.{Memory};
 ghost use Rattle.peer_lock.specs.declared.errors.PeerError.TheVariants.{NeedsNumber};
+ghost use Rattle.peer_lock.specs.declared.pokes.Pokes.{Pokes};
+ghost use Rattle.peer_lock.specs.declared.steps.Rejection.TheVariants.{Draining};
 ghost use Rattle.peer_lock.specs.declared.steps.TickReport.{TickReport};
 ghost use Rattle.seq_window.specs.Network.{Datagram as Sending, Side};
 
@@ -71,14 +81,70 @@ pub fn calls_bear_tokens()
         full_refused peer frame now ≡ Some NeedsNumber → BearsToken tokens now frame }
 {}
 
-/// While a peer drains, no NEW opens a leg. A NEW that belongs to no leg is answered by REJECT with cause 42, in every plan
-/// version, and gets no number; under no name does a NEW open a leg.
+/// While a peer drains, no NEW opens a leg, in every plan version. No NEW gets a number: one that would get a number
+/// otherwise is answered by REJECT with cause 42. Under no name does a NEW open a leg: under a free one it is refused as
+/// `Draining`.
 pub fn draining_peers_open_none()
-    ensures answered { (peer : PeerView) (frame : FullFrame) (now : ℕ) → peer.drains ≡ true → found peer.legs frame ≡ None →
-        frame.head.destination ≡ 0 → frame.head.oseqno ≡ 0 → is_new (message_of frame.head) ≡ true →
-        delivery peer frame now ≡ Gets (drained_for frame.head) }
+    ensures none { (peer : PeerView) (frame : FullFrame) (now : ℕ) → peer.drains ≡ true →
+        full_refused peer frame now ≢ Some NeedsNumber }
+    ensures answered { (peer : PeerView) (frame : FullFrame) (now : ℕ) → peer.drains ≡ true →
+        full_refused (record peer { drains = false }) frame now ≡ Some NeedsNumber →
+        delivery peer frame now ≡ Gets (reject_for Draining frame.head) }
     ensures refused { (peer : PeerView) (credit : ℕ) (name : LegName) (source : ℕ) → peer.drains ≡ true →
         open_in_refused peer credit name source ≢ None }
+    ensures named { (peer : PeerView) (credit : ℕ) (name : LegName) (source : ℕ) → peer.drains ≡ true →
+        peer.accounts.steps ≢ credit → is_free_name peer.legs name ≡ true →
+        open_in_refused peer credit name source ≡ Some open_errors.Draining }
+{}
+
+/// The exchange asks a peer by POKE as its plan says, and a run of POKEs without an answer is told as such (RFC 5456, sections
+/// 6.7.1 and 6.7.3). Moments and waits are in milliseconds.
+pub fn pokes_are_by_the_rules()
+    // Without `qualify_ms` none goes out. Otherwise the first goes out at once.
+    ensures off { (rules : PeerRules) (pokes : Pokes) (now : ℕ) → rules.qualify_ms ≡ 0 → pokes_sent rules pokes now ≡ [] }
+    ensures first { (rules : PeerRules) (pokes : Pokes) (now : ℕ) → 1 ≤ rules.qualify_ms → pokes.last ≡ None →
+        pokes_sent rules pokes now ≡ poke_octets (poke_stamp rules now) ∷ [] }
+    // One that isn't answered is repeated `max_retries` times, each `retry_ms` after the one before, and no sooner.
+    ensures repeated { (rules : PeerRules) (pokes : Pokes) (now last : ℕ) → 1 ≤ rules.qualify_ms → pokes.last ≡ Some last →
+        1 ≤ pokes.unanswered → pokes.unanswered ≤ rules.max_retries → last + rules.retry_ms ≤ now →
+        pokes_sent rules pokes now ≡ poke_octets (poke_stamp rules now) ∷ [] }
+    ensures not_sooner { (rules : PeerRules) (pokes : Pokes) (now last : ℕ) → pokes.last ≡ Some last →
+        1 ≤ pokes.unanswered → pokes.unanswered ≤ rules.max_retries → last ≤ now → now < last + rules.retry_ms →
+        pokes_sent rules pokes now ≡ [] }
+    // After an answer, or after all of a run, the next run begins `qualify_ms` after the last, and no sooner.
+    ensures next { (rules : PeerRules) (pokes : Pokes) (now last : ℕ) → 1 ≤ rules.qualify_ms → pokes.last ≡ Some last →
+        (pokes.unanswered ≡ 0) ⊎ (rules.max_retries < pokes.unanswered) → last + rules.qualify_ms ≤ now →
+        pokes_sent rules pokes now ≡ poke_octets (poke_stamp rules now) ∷ [] }
+    ensures next_not_sooner { (rules : PeerRules) (pokes : Pokes) (now last : ℕ) → pokes.last ≡ Some last →
+        (pokes.unanswered ≡ 0) ⊎ (rules.max_retries < pokes.unanswered) → last ≤ now → now < last + rules.qualify_ms →
+        pokes_sent rules pokes now ≡ [] }
+    // No run is longer.
+    ensures runs { (rules : PeerRules) (pokes : Pokes) (now : ℕ) → pokes.unanswered ≤ rules.max_retries + 1 →
+        (pokes_after rules pokes now).unanswered ≤ rules.max_retries + 1 }
+    // `retry_ms` after the last of a run the peer is known to be silent since the first of it.
+    ensures silent { (rules : PeerRules) (pokes : Pokes) (now last : ℕ) → pokes.last ≡ Some last →
+        rules.max_retries < pokes.unanswered → last + rules.retry_ms ≤ now →
+        unanswered_since rules pokes now ≡ Some pokes.since }
+    // A PONG answers the last POKE alone, by its timestamp, and only once.
+    ensures pongs { (rules : PeerRules) (pokes : Pokes) (head : FullHead) → answers_poke rules pokes head ≡ true →
+        (last : ℕ) × (pokes.last ≡ Some last) × (1 ≤ pokes.unanswered) × (head.timestamp ≡ poke_stamp rules last) }
+    ensures once { (rules : PeerRules) (pokes : Pokes) (head : FullHead) (now : ℕ) →
+        answers_poke rules (answered pokes now) head ≡ false }
+{}
+
+/// In plan version 4 a trunk frame hands up the media of at most 16 entries of one call. In older versions no entry is dropped
+/// for their number.
+pub fn trunk_frames_bring_few_of_a_call()
+    ensures few { (first : ℕ) (peer : PeerView) (trunk : TrunkFrame) (now number : ℕ) → peer.rules.is_hardened ≡ true →
+        handed_by number (datagram_step first peer (Trunk trunk) now).signals ≤ 16 }
+    ensures others { (peer : PeerView) (trunk : TrunkFrame) → peer.rules.is_hardened ≡ false → trunk_rejected peer trunk ≡ None }
+{}
+
+/// In plan version 4 a NEW that belongs to no leg gets no number while legs that wait for the answer to a challenge have half
+/// of the peer's numbers or more.
+pub fn crowded_peers_open_none()
+    ensures { (peer : PeerView) (frame : FullFrame) (now : ℕ) → peer.rules.is_hardened ≡ true → is_crowded peer.legs ≡ true →
+        full_refused peer frame now ≢ Some NeedsNumber }
 {}
 
 /// Each step of a peer, and each removal of a leg, is one that callers at once allow for. They see the legs' names, their

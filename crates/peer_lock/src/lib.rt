@@ -15,6 +15,7 @@ mod read_datagram;
 mod state;
 mod steps;
 mod ticks;
+mod trunk_entries;
 mod unknown_calls;
 
 pub use closed::ClosedPeer;

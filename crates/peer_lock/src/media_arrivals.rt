@@ -4,11 +4,13 @@ ghost use Rattle.iax_frames.specs.TrunkFrame.{entry_item, is_timed};
 ghost use Rattle.peer_accounts.specs.Accounts.{with_accepted};
 ghost use Rattle.peer_lock.specs.Arrivals.{media_at, mini_media, mini_refused, trunk_media, entries_len};
 ghost use Rattle.peer_legs.specs.Legs.{leg_at, leg_of_remote};
+ghost use Rattle.peer_lock.specs.TrunkEntries.{drops_entries};
 ghost use Rattle.peer_accounts.specs.HandedUp.{IsNothing};
 ghost use Rattle.peer_lock.specs.Makes.{Takes, IsUnchanged, IsDue};
 
 use crate::errors::PeerError;
 use crate::state::PeerState;
+use crate::trunk_entries::{counts_entry, no_counts};
 use iax_frames::{Mini, Trunk};
 use leg_machine::{MediaIn, MediaSpan, Signal};
 use peer_accounts::{LedgerSet, Onwards, Pass};
@@ -51,13 +53,23 @@ impl<J: LedgerSet> PeerState<J> {
         }
     }
 
-    // Takes the media of the entries of a trunk frame, in one pass. There is room for all of it.
-    pub(crate) fn take_entries(&mut self, pass: &mut Pass<J>, trunk: &Trunk, onwards: &mut Onwards)
+    // Takes the media of the entries of a trunk frame, in one pass. There is room for all of it. Returns whether entries were
+    // dropped, because their call has too many.
+    pub(crate) fn take_entries(
+        &mut self,
+        pass: &mut Pass<J>,
+        trunk: &Trunk,
+        onwards: &mut Onwards,
+    ) -> bool
         requires short { 8 + entries_len (is_timed trunk.now.command_data) (map entry_item trunk.now.entries) ≤ 2048 }
         requires room { length (map entry_item trunk.now.entries) ≤ onwards.old.room }
         requires nothing { IsNothing onwards.old }
-        ensures { Takes (trunk_media J.first_octets self.old trunk.now) self.old self.new pass.old pass.new onwards.new }
+        ensures takes { Takes (trunk_media J.first_octets self.old trunk.now) self.old self.new pass.old pass.new onwards.new }
+        ensures drops { result ≡ drops_entries self.old.legs self.old.rules.is_hardened [] (map entry_item trunk.now.entries) }
     {
+        let is_limited = self.rules.is_hardened;
+        let mut counts = no_counts();
+        let mut drops = false;
         let timed = trunk.command_data() % 2 == 1;
         let head = entry_head_len(timed);
         let mut at = 8;
@@ -70,8 +82,13 @@ impl<J: LedgerSet> PeerState<J> {
             };
             at = span.end;
             if let Some(number) = self.legs.of_remote(entry.0) {
-                self.take_media(pass, number, span, onwards);
+                if is_limited && !counts_entry(&mut counts, self.legs.place_of(number)) {
+                    drops = true;
+                } else {
+                    self.take_media(pass, number, span, onwards);
+                }
             }
         }
+        drops
     }
 }

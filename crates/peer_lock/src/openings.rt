@@ -16,7 +16,7 @@ use crate::arrivals::hand_up;
 use crate::errors::{OpenError, RejectError};
 use crate::outboxes::put_all;
 use crate::state::PeerState;
-use crate::steps::Step;
+use crate::steps::{Rejection, Step};
 use crate::unknown_calls::reject_for;
 use call_auth::Challenge;
 use call_book::{Lease, LegName};
@@ -62,7 +62,7 @@ impl<J: LedgerSet> PeerState<J> {
             return Some(refusal);
         }
         if self.drains {
-            return Some(OpenError::NumberBusy);
+            return Some(OpenError::Draining);
         }
         if self.legs.of_remote(frame.source()).is_some() {
             return Some(OpenError::RemoteBusy);
@@ -83,9 +83,9 @@ impl<J: LedgerSet> PeerState<J> {
     /// Opens a leg by a received NEW, under the lease, at the moment `now`, in milliseconds: one step ("Call Setup"). It is
     /// a NEW that `datagram` answers by `NeedsNumber`. The signals handed up are written to the empty list.
     ///
-    /// Refusals are checked in this order: `StepsSpent`; `NumberBusy` if a leg has the lease's number, the lease isn't of
-    /// this peer, or the peer drains; `RemoteBusy` if a leg has the NEW's source; `Memory`, which is returned only if
-    /// memory was refused. The lease comes back, and nothing is changed.
+    /// Refusals are checked in this order: `StepsSpent`; `NumberBusy` if a leg has the lease's number or the lease isn't of
+    /// this peer; `Draining` if the peer drains; `RemoteBusy` if a leg has the NEW's source; `Memory`, which is returned
+    /// only if memory was refused. The lease comes back, and nothing is changed.
     pub fn open_in(
         &mut self,
         pass: &mut Pass<J>,
@@ -187,7 +187,7 @@ impl<J: LedgerSet> PeerState<J> {
         if let Some(refusal) = self.rejecting_refused(frame) {
             return Err(refusal);
         }
-        Ok(self.answer_alone(pass, &reject_for(frame)))
+        Ok(self.answer_alone(pass, &reject_for(Rejection::NoNumber, frame)))
     }
 
     // Makes a leg for a name, to call a number of at most 255 octets, and puts its frames into the outbox.

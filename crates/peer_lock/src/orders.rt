@@ -12,8 +12,8 @@ ghost use Rattle.peer_lock.specs.Orders.{from_leg_due, IsOrderRefusal};
 ghost use Rattle.call_signals.specs.Order.{media_of};
 ghost use Rattle.peer_lock.specs.Orders.{WasOrdered};
 ghost use Rattle.iax_frames.specs.TrunkFrame.{head_len};
-ghost use Rattle.peer_lock.specs.Trunks.{has_any, waits};
-ghost use Rattle.trunk_packer.specs.Queue.{trunk_octets};
+ghost use Rattle.peer_lock.specs.Trunks.{has_any, most_entries, waits};
+ghost use Rattle.trunk_packer.specs.Queue.{call_entries, trunk_octets};
 ghost use Rattle.memory_requests.specs.Refused.{WasRefused};
 
 use crate::errors::OrderError;
@@ -47,6 +47,8 @@ impl<J: LedgerSet> PeerState<J> {
         requires credit { length media.now ≤ pass.old.octets }
         requires frame { waits self.old.rules ≡ true → trunk_octets self.old.rules.trunk_timestamps self.old.queue
             + head_len self.old.rules.trunk_timestamps + length media.now ≤ 1400 }
+        requires entries { waits self.old.rules ≡ true →
+            call_entries number self.old.queue < most_entries self.old.rules.trunk_timestamps }
         ensures peer { self.new ≡
             queued_media self.old (record { number = number; timestamp = timestamp; media = media.now }) now }
         ensures octets { pass.new.octets + length media.now ≡ pass.old.octets }

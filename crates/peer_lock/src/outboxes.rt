@@ -1,7 +1,7 @@
 //! The way to the outbox: replies of legs, behind queued media of their calls, and trunk frames ("Meta Frames").
 ghost use Rattle.std.specs.Prelude.{◌≡◌, ◌≤◌, ◌&&◌, true, length, take};
 ghost use Rattle.outbox.specs.Outbox.{put};
-ghost use Rattle.peer_lock.specs.Trunks.{has_any, waits, begins_next, goes_ahead, outbox_after, queue_after, accounts_after};
+ghost use Rattle.peer_lock.specs.Trunks.{has_any, waits, most_entries, begins_next, goes_ahead, outbox_after, queue_after, accounts_after};
 ghost use Rattle.trunk_packer.specs.Queue.{media_octets, trunk_octets};
 
 use iax_frames::CallNumber;
@@ -9,6 +9,9 @@ use leg_machine::{PeerRules, Replies};
 use outbox::Outbox;
 use peer_accounts::{Account, LedgerSet};
 use trunk_packer::{Packer, entry_head_len};
+
+/// The greatest number of entries of one call in a trunk frame whose entries have timestamps.
+pub(crate) const ENTRIES_OF_A_CALL: usize = 16;
 
 // Puts the first of these datagrams into the outbox, as many as fit.
 #[tactic(auto, using(outbox::proofs::Puts::put_none, outbox::proofs::Puts::put_more))]
@@ -43,6 +46,13 @@ pub(crate) fn is_ahead_at_tick(rules: &PeerRules, replies: &Replies) -> bool
     replies.len() > 0 && rules.trunk_ms.is_some()
 }
 
+// Returns the greatest number of entries of one call in a trunk frame.
+fn most_entries(timed: bool) -> usize
+    ensures { result ≡ most_entries timed }
+{
+    if timed { ENTRIES_OF_A_CALL } else { 1 }
+}
+
 // Returns whether media of a call begins the next trunk frame. `octets` is its length.
 pub(crate) fn is_next(rules: &PeerRules, queue: &Packer, number: CallNumber, octets: usize) -> bool
     requires short { octets ≤ 1380 }
@@ -59,7 +69,7 @@ pub(crate) fn is_next(rules: &PeerRules, queue: &Packer, number: CallNumber, oct
     if queue.frame_len(timed) + entry_head_len(timed) + octets > 1400 {
         return true;
     }
-    !timed && queue.has_call(number)
+    queue.has_entries(number, most_entries(timed))
 }
 
 // Sends the whole queue as one trunk frame if `goes` is true. The frame has `since`, the moment of the oldest entry.

@@ -127,13 +127,11 @@ impl Pokes {
     }
 
     /// Whether a frame answers the last POKE, which has no answer yet: it has its timestamp.
-    pub(crate) fn is_answer(&self, frame: &Full) -> bool
-        ensures { result ≡ pokes.answers_poke self.now frame.now.head }
+    pub(crate) fn is_answer(&self, rules: &PeerRules, frame: &Full) -> bool
+        ensures { result ≡ pokes.answers_poke rules.now self.now frame.now.head }
     {
         match self.last {
-            Some(last) => {
-                1 <= self.unanswered && last % 0x1_0000_0000 == u64::from(frame.timestamp())
-            }
+            Some(last) => 1 <= self.unanswered && poke_stamp(rules, last) == frame.timestamp(),
             None => false,
         }
     }
@@ -155,15 +153,22 @@ impl Pokes {
     }
 }
 
-/// The head of a POKE at the moment `now`.
-pub(crate) fn poke_head(now: u64) -> FullHead
-    ensures { result ≡ pokes.poke_head now }
+// Returns the timestamp of a POKE at the moment `now`: the moment and the drawn offset, modulo 2^32.
+pub(crate) fn poke_stamp(rules: &PeerRules, now: u64) -> u32
+    ensures { result ≡ pokes.poke_stamp rules.now now }
+{
+    ((now % 0x1_0000_0000) as u32).wrapping_add(rules.poke_offset)
+}
+
+/// The head of a POKE with a timestamp.
+pub(crate) fn poke_head(timestamp: u32) -> FullHead
+    ensures { result ≡ pokes.poke_head timestamp }
 {
     FullHead {
         source: CallNumber::new(NO_CALL),
         retransmitted: false,
         destination: CallNumber::new(0),
-        timestamp: (now % 0x1_0000_0000) as u32,
+        timestamp,
         oseqno: 0,
         iseqno: 0,
         frame_type: FRAME_IAX,

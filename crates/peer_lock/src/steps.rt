@@ -8,7 +8,7 @@ use leg_machine::{Cause, Failure, Format, Judged, Moments, Stage};
 use peer_legs::NamedLeg;
 use seq_window::Record;
 
-/// A rejection by a step's answer, or an AUTHREQ with a challenge of this exchange.
+/// A rejection by a step's answer, entries that are dropped, or an AUTHREQ with a challenge of this exchange.
 #[derive(Clone, Copy, Debug, PartialEq, Eq)]
 pub enum Rejection {
     /// A NEW that finds no free number, by REJECT ("REJECT"), in plan version 4.
@@ -20,6 +20,8 @@ pub enum Rejection {
     /// A NEW that asks for a call token, by CALLTOKEN (chan_iax2's; RFC 5456 has none). Its sender has to send it again
     /// with the token.
     CallToken,
+    /// A trunk frame with more than 16 entries of one call ("Meta Frames"), in plan version 4. The others are dropped.
+    ManyEntries,
     /// An AUTHREQ whose challenge begins as this exchange's own do ("AUTHREQ"). A leg hangs up in plan version 4, and
     /// answers it in older versions.
     Reflection,

@@ -9,7 +9,7 @@ ghost use Rattle.trunk_packer.specs.Queue.{media_octets};
 
 use crate::errors::StepsSpent;
 use crate::outboxes::{flush_if, is_ahead_at_tick, put_all};
-use crate::pokes::poke_head;
+use crate::pokes::{poke_head, poke_stamp};
 use crate::state::PeerState;
 use crate::steps::TickReport;
 use iax_frames::write_full;
@@ -25,7 +25,7 @@ impl<J: LedgerSet> PeerState<J> {
         if !self.pokes.is_due(&self.rules, now) {
             return;
         }
-        match write_full(&poke_head(now), &[]) {
+        match write_full(&poke_head(poke_stamp(&self.rules, now)), &[]) {
             Ok(out) => self.outbox.put(&out),
             Err(_) => unreachable!(),
         }

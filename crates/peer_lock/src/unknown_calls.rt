@@ -3,7 +3,7 @@
 ghost use Rattle.std.specs.Prelude.{◌≡◌, ◌≢◌, true, false, None, Some, IfOk, IfErr, OnOk, OnErr};
 ghost use Rattle.peer_accounts.specs.Accounts.{with_step as with_credit};
 ghost use Rattle.peer_lock.specs.Arrivals.{answering, delivered_step};
-ghost use Rattle.peer_lock.specs.Delivery.{answer_data, delivery_refused, legless, newcomer, unknown_call, Gets, Pongs};
+ghost use Rattle.peer_lock.specs.Delivery.{answer_data, closed_to_calls, delivery_refused, legless, let_in, newcomer, unknown_call, Gets, Pongs};
 ghost use Rattle.peer_lock.specs.Delivery as answers;
 ghost use Rattle.peer_lock.specs.Makes.{MakesAlone};
 ghost use Rattle.peer_lock.specs.Peer.{no_leg};
@@ -109,24 +109,13 @@ fn pong_for(frame: &Full) -> Answer
     }
 }
 
-// Returns REJECT for a NEW without a free number.
-pub(crate) fn reject_for(frame: &Full) -> Answer
-    ensures { result ≡ answers.reject_for frame.now.head }
+// Returns REJECT for a NEW that isn't let in.
+pub(crate) fn reject_for(why: Rejection, frame: &Full) -> Answer
+    ensures { result ≡ answers.reject_for why frame.now.head }
 {
     Answer {
         head: answer_head(frame, IAX_REJECT),
-        rejected: Some(Rejection::NoNumber),
-        says: AnswerData::Why(Cause::Congestion),
-    }
-}
-
-// Returns REJECT for a NEW at a peer that drains.
-fn drained_for(frame: &Full) -> Answer
-    ensures { result ≡ answers.drained_for frame.now.head }
-{
-    Answer {
-        head: answer_head(frame, IAX_REJECT),
-        rejected: Some(Rejection::Draining),
+        rejected: Some(why),
         says: AnswerData::Why(Cause::Congestion),
     }
 }
@@ -155,59 +144,6 @@ fn token_for(frame: &Full, tokens: &CallTokens, now: u64) -> Answer
     }
 }
 
-// Returns the answer to a NEW that belongs to no leg, by whether the peer drains and by the NEW's call token.
-fn answer_to_new(
-    frame: &Full,
-    drains: bool,
-    rules: &PeerRules,
-    now: u64,
-) -> Result<Answer, PeerError>
-    ensures answer { IfOk result (λ answer. newcomer drains rules.now.call_tokens frame.now now ≡ Gets answer) }
-    ensures refused { IfErr result (λ e. Some e ≡ delivery_refused (newcomer drains rules.now.call_tokens frame.now now)) }
-{
-    if drains {
-        return Ok(drained_for(frame));
-    }
-    let Some(tokens) = &rules.call_tokens else {
-        return Err(PeerError::NeedsNumber);
-    };
-    let Some(token) = last_in(frame.payload(), CALLTOKEN) else {
-        return Err(PeerError::NoToken);
-    };
-    if token.is_empty() {
-        return Ok(token_for(frame, tokens, now));
-    }
-    if tokens.accepts(now, token) {
-        Err(PeerError::NeedsNumber)
-    } else {
-        Err(PeerError::NoToken)
-    }
-}
-
-// Returns the answer to a frame that belongs to no leg, by whether the peer drains and by its rules.
-fn answer_to(frame: &Full, drains: bool, rules: &PeerRules, now: u64) -> Result<Answer, PeerError>
-    ensures answer { IfOk result (λ answer. unknown_call drains rules.now frame.now now ≡ Gets answer) }
-    ensures refused { IfErr result (λ e. Some e ≡ delivery_refused (unknown_call drains rules.now frame.now now)) }
-{
-    let message = Message::of(frame);
-    if frame.destination().get() == 0 {
-        if is_new(&message) && frame.oseqno() == 0 {
-            return answer_to_new(frame, drains, rules, now);
-        }
-        if rules.poke && is_poke(&message) {
-            return Ok(pong_for(frame));
-        }
-        if rules.is_hardened && is_registration(frame) {
-            return Ok(regrej_for(frame));
-        }
-        return Err(PeerError::NoCall);
-    }
-    if !message.is_numbered() {
-        return Err(PeerError::NoCall);
-    }
-    Ok(inval_for(frame))
-}
-
 // Returns the data of an answer.
 fn answer_data(says: AnswerData) -> Payload
     ensures { result ≡ answer_data says }
@@ -222,6 +158,80 @@ fn answer_data(says: AnswerData) -> Payload
 }
 
 impl<J: LedgerSet> PeerState<J> {
+    // Returns why the peer lets no NEW in. Only a NEW that belongs to no leg asks, because it looks at each number.
+    fn closed_to_calls(&self) -> Option<Rejection>
+        ensures { result ≡ closed_to_calls self.now }
+    {
+        if self.drains {
+            return Some(Rejection::Draining);
+        }
+        if self.rules.is_hardened && self.legs.is_crowded() {
+            return Some(Rejection::NoNumber);
+        }
+        None
+    }
+
+    // Lets in a NEW that needs no further token, or rejects it.
+    fn let_in(&self, frame: &Full) -> Result<Answer, PeerError>
+        ensures answer { IfOk result (λ answer. let_in (closed_to_calls self.now) frame.now.head ≡ Gets answer) }
+        ensures refused { IfErr result (λ e. Some e ≡ delivery_refused (let_in (closed_to_calls self.now) frame.now.head)) }
+    {
+        match self.closed_to_calls() {
+            Some(why) => Ok(reject_for(why, frame)),
+            None => Err(PeerError::NeedsNumber),
+        }
+    }
+
+    // Returns the answer to a NEW that belongs to no leg. Its token is judged before whether it is let in, so that a draining
+    // peer answers only those that have one.
+    fn answer_to_new(&self, frame: &Full, now: u64) -> Result<Answer, PeerError>
+        ensures answer { IfOk result (λ answer.
+            newcomer (closed_to_calls self.now) self.now.rules.call_tokens frame.now now ≡ Gets answer) }
+        ensures refused { IfErr result (λ e. Some e ≡
+            delivery_refused (newcomer (closed_to_calls self.now) self.now.rules.call_tokens frame.now now)) }
+    {
+        let Some(tokens) = &self.rules.call_tokens else {
+            return self.let_in(frame);
+        };
+        let Some(token) = last_in(frame.payload(), CALLTOKEN) else {
+            return Err(PeerError::NoToken);
+        };
+        if token.is_empty() {
+            return Ok(token_for(frame, tokens, now));
+        }
+        if tokens.accepts(now, token) {
+            self.let_in(frame)
+        } else {
+            Err(PeerError::NoToken)
+        }
+    }
+
+    // Returns the answer to a frame that belongs to no leg.
+    fn answer_to(&self, frame: &Full, now: u64) -> Result<Answer, PeerError>
+        ensures answer { IfOk result (λ answer.
+            unknown_call (closed_to_calls self.now) self.now.rules frame.now now ≡ Gets answer) }
+        ensures refused { IfErr result (λ e. Some e ≡
+            delivery_refused (unknown_call (closed_to_calls self.now) self.now.rules frame.now now)) }
+    {
+        let message = Message::of(frame);
+        if frame.destination().get() == 0 {
+            if is_new(&message) && frame.oseqno() == 0 {
+                return self.answer_to_new(frame, now);
+            }
+            if self.rules.poke && is_poke(&message) {
+                return Ok(pong_for(frame));
+            }
+            if self.rules.is_hardened && is_registration(frame) {
+                return Ok(regrej_for(frame));
+            }
+            return Err(PeerError::NoCall);
+        }
+        if !message.is_numbered() {
+            return Err(PeerError::NoCall);
+        }
+        Ok(inval_for(frame))
+    }
+
     // Sends this answer in a step without a leg.
     pub(crate) fn answer_alone(&mut self, pass: &mut Pass<J>, answer: &Answer) -> Step
         requires { self.old.accounts.steps ≢ J.first_steps }
@@ -250,33 +260,33 @@ impl<J: LedgerSet> PeerState<J> {
         now: u64,
     ) -> Result<Step, PeerError>
         requires { self.old.accounts.steps ≢ J.first_steps }
-        ensures peer { OnOk result ((answer : AnswerValue) → unknown_call self.old.drains self.old.rules frame.now now
+        ensures peer { OnOk result ((answer : AnswerValue) → unknown_call (closed_to_calls self.old) self.old.rules frame.now now
             ≡ Gets answer →
             self.new ≡ (answering self.old answer).peer) }
         ensures answer { OnOk result ((answer : AnswerValue) ×
-            (unknown_call self.old.drains self.old.rules frame.now now ≡ Gets answer)) }
-        ensures step { IfOk result (λ step. (answer : AnswerValue) → unknown_call self.old.drains self.old.rules frame.now now
+            (unknown_call (closed_to_calls self.old) self.old.rules frame.now now ≡ Gets answer)) }
+        ensures step { IfOk result (λ step. (answer : AnswerValue) → unknown_call (closed_to_calls self.old) self.old.rules frame.now now
             ≡ Gets answer →
             step ≡ (answering self.old answer).step) }
         ensures credit { OnOk result (pass.new ≡ with_credit pass.old 0) }
-        ensures refused { IfErr result (λ e. Some e ≡ delivery_refused (unknown_call self.old.drains self.old.rules frame.now
+        ensures refused { IfErr result (λ e. Some e ≡ delivery_refused (unknown_call (closed_to_calls self.old) self.old.rules frame.now
             now)) }
         ensures err { OnErr result ((self.new ≡ self.old) × (pass.new ≡ pass.old)) }
     {
-        let answer = answer_to(frame, self.drains, &self.rules, now)?;
+        let answer = self.answer_to(frame, now)?;
         Ok(self.answer_alone(pass, &answer))
     }
     // A PONG to the call number that POKEs have: it counts if it answers the last POKE.
     fn take_pong(&mut self, pass: &mut Pass<J>, frame: &Full, now: u64) -> Result<Step, PeerError>
         requires { self.old.accounts.steps ≢ J.first_steps }
-        ensures counts { OnOk result (answers_poke self.old.pokes frame.now.head ≡ true) }
+        ensures counts { OnOk result (answers_poke self.old.rules self.old.pokes frame.now.head ≡ true) }
         ensures peer { OnOk result (self.new ≡ (delivered_step J.first_octets self.old Pongs frame.now now).peer) }
         ensures step { IfOk result (λ step. step ≡ no_leg) }
         ensures credit { OnOk result (pass.new ≡ with_credit pass.old 0) }
-        ensures refused { IfErr result (λ e. (e ≡ errors.NoCall) × (answers_poke self.old.pokes frame.now.head ≡ false)) }
+        ensures refused { IfErr result (λ e. (e ≡ errors.NoCall) × (answers_poke self.old.rules self.old.pokes frame.now.head ≡ false)) }
         ensures err { OnErr result ((self.new ≡ self.old) × (pass.new ≡ pass.old)) }
     {
-        if !self.pokes.is_answer(frame) {
+        if !self.pokes.is_answer(&self.rules, frame) {
             return Err(PeerError::NoCall);
         }
         self.pokes = self.pokes.answered(now);
@@ -297,12 +307,12 @@ impl<J: LedgerSet> PeerState<J> {
     ) -> Result<Step, PeerError>
         requires { self.old.accounts.steps ≢ J.first_steps }
         ensures made { IfOk result (λ step. MakesAlone (delivered_step J.first_octets self.old
-            (legless self.old.drains self.old.rules self.old.pokes frame.now now) frame.now now) self.new step pass.old
+            (legless (closed_to_calls self.old) self.old.rules self.old.pokes frame.now now) frame.now now) self.new step pass.old
             pass.new) }
         ensures unrefused { OnOk result (delivery_refused
-            (legless self.old.drains self.old.rules self.old.pokes frame.now now) ≡ None) }
+            (legless (closed_to_calls self.old) self.old.rules self.old.pokes frame.now now) ≡ None) }
         ensures refused { IfErr result (λ e. Some e ≡ delivery_refused
-            (legless self.old.drains self.old.rules self.old.pokes frame.now now)) }
+            (legless (closed_to_calls self.old) self.old.rules self.old.pokes frame.now now)) }
         ensures err { OnErr result ((self.new ≡ self.old) × (pass.new ≡ pass.old)) }
     {
         if is_own_pong(&self.rules, frame) {

@@ -361,10 +361,11 @@ numbers_at workers [] h i lt = absurd (omega arith)
 numbers_at workers (p ∷ ps) h zero lt = (h 0 p (omega arith)).numbers
 numbers_at workers (p ∷ ps) h (suc i) lt = numbers_at workers ps (λ k d less. h (suc k) d (omega arith)) i (omega arith)
 
-pub plan_sound : (workers : List Endpoint) (passes : ℕ) (peers : List Peer) (routes : List Route) → IsWithin 1 8 (length workers)
+pub plan_sound : (workers : List Endpoint) (passes : ℕ) (peers : List Peer) (routes : List Route) (avoids_return : Bool)
+    → IsWithin 1 8 (length workers)
     → IsWithin (length workers) 64 passes → ArePeers (length workers) peers → AreRoutes (length peers) routes
-    → IsPlan (record { workers = workers; passes = passes; peers = peers; routes = routes })
-plan_sound workers passes peers routes some enough are lead =
+    → IsPlan (record { workers = workers; passes = passes; peers = peers; routes = routes; avoids_return = avoids_return })
+plan_sound workers passes peers routes avoids_return some enough are lead =
     record {
       workers = some;
       passes = enough;

@@ -1,5 +1,5 @@
 -- A plan: workers, passes, peers with their numbers, and routes.
-use Rattle.std.specs.Prelude.{◌≡◌, ◌≢◌, ◌≤◌, ◌<◌, ℕ, ◌+◌, ◌*◌, List, length, map, Bool, true, ◌&&◌, ◌||◌}
+use Rattle.std.specs.Prelude.{◌≡◌, ◌≢◌, ◌≤◌, ◌<◌, ℕ, ◌+◌, ◌*◌, List, length, map, Bool, true, not, ◌&&◌, ◌||◌}
 use Rattle.std.specs.Prelude.{nat_le, nat_eq, Option, Some, None, is_some, if◌then◌else◌, ◌==◌, slice_index, All}
 use Rattle.std.specs.Prelude.{Contains, IfSome, option_map}
 use Rattle.std.specs.Char.{is_ascii_alphanumeric}
@@ -19,6 +19,8 @@ pub record PlanView : Type 0 where
   pub passes : ℕ
   pub peers : List Peer
   pub routes : List Route
+  -- a route for the calls of all isn't for those of the peer to which it leads
+  pub avoids_return : Bool
 
 -- an ASCII letter, a digit or a dash
 abbrev pub is_name_octet : ℕ → Bool
@@ -47,6 +49,7 @@ with_drawn drawn peer =
       rules = record peer.rules {
         challenge_prefix = drawn.challenge_prefix;
         call_tokens = option_map (with_key drawn.token_key) peer.rules.call_tokens;
+        poke_offset = drawn.poke_offset;
       };
     }
 
@@ -69,17 +72,18 @@ IsInRange range number = (range.first ≤ number) × (number < range.first + ran
 abbrev pub begins : List ℕ → Route → Bool
 begins text route = starts_with nat_eq text route.prefix
 
--- a route is for the calls of a peer: it has no source, or this one
-abbrev pub is_source : ℕ → Option ℕ → Bool
-is_source caller None = true
-is_source caller (Some source) = source == caller
+-- The calls of a peer may take a route that leads to a target: one with a source, if that is the caller, also back to it.
+-- One without a source is for the calls of all, but, where returns are avoided, not for those of its target.
+abbrev pub is_for : Bool → ℕ → ℕ → Option ℕ → Bool
+is_for avoids_return caller target None = not (avoids_return && target == caller)
+is_for avoids_return caller target (Some source) = source == caller
 
-abbrev pub is_open_to : ℕ → Route → Bool
-is_open_to caller route = is_source caller route.source
+abbrev pub is_open_to : Bool → ℕ → Route → Bool
+is_open_to avoids_return caller route = is_for avoids_return caller route.peer route.source
 
 -- a call of a peer to the number fits a route
-unfoldable pub fits : ℕ → List ℕ → Route → Bool
-fits caller text route = begins text route && is_open_to caller route
+unfoldable pub fits : Bool → ℕ → List ℕ → Route → Bool
+fits avoids_return caller text route = begins text route && is_open_to avoids_return caller route
 
 -- of the routes whose prefix begins the text, this is the one with the longest prefix
 pub record IsLongest (routes : List Route) (text : List ℕ) (route : Route) : Type 0 where
@@ -92,10 +96,10 @@ abbrev pub nearness : Route → ℕ
 nearness route = 2 * length route.prefix + (if is_some route.source then 1 else 0)
 
 -- of the routes that a call fits, this is the nearest
-pub record IsNearest (routes : List Route) (caller : ℕ) (text : List ℕ) (route : Route) : Type 0 where
+pub record IsNearest (avoids_return : Bool) (routes : List Route) (caller : ℕ) (text : List ℕ) (route : Route) : Type 0 where
   pub listed : Contains routes route
-  pub fitting : fits caller text route ≡ true
-  pub nearest : All (λ other. fits caller text other ≡ true → nearness other ≤ nearness route) routes
+  pub fitting : fits avoids_return caller text route ≡ true
+  pub nearest : All (λ other. fits avoids_return caller text other ≡ true → nearness other ≤ nearness route) routes
 
 -- ---- properties of every plan
 

@@ -4,7 +4,14 @@ use Rattle.peer_plan.specs.declared.plan.Plan.TheInside.{Inside}
 use Rattle.peer_plan.specs.Plan.{PlanView, IsPlan, counts_of}
 
 abbrev pub plan_view : Inside → PlanView
-plan_view a = record { workers = a.workers.items; passes = a.passes; peers = a.peers.items; routes = a.routes }
+plan_view a =
+    record {
+      workers = a.workers.items;
+      passes = a.passes;
+      peers = a.peers.items;
+      routes = a.routes;
+      avoids_return = a.avoids_return;
+    }
 
 pub record IsSound (a : Inside) : Type 0 where
   pub plan : IsPlan (plan_view a)

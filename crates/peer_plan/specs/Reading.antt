@@ -206,6 +206,7 @@ rules_from format limits credentials media window poke call_tokens qualify_ms =
       vnak_ms = limits.vnak_ms;
       poke = poke;
       qualify_ms = qualify_ms;
+      poke_offset = 0;
       carries_caller = format == 4;
       carries_cause = format == 4;
       routes_format = format == 4;
@@ -305,6 +306,7 @@ route_in format peers before ms = do
 unfoldable pub routes_in : ℕ → List Peer → Members → Result (List Route) PlanError
 routes_in format peers ms = value ms key.Route (Ok no_items) as_array >>= each key.Route (route_in format peers) []
 
+-- Only in plan version 4 a route for the calls of all isn't for those of the peer to which it leads.
 unfoldable pub plan_in : Members → Result PlanView PlanError
 plan_in ms = do
   format ← value ms key.Format (Err (error.Missing key.Format)) plan_format
@@ -314,7 +316,7 @@ plan_in ms = do
   peers ← peers_in format limits (length workers) ms
   routes ← routes_in format peers ms
   known ← known_in format ms
-  Ok (record { workers = workers; passes = passes; peers = peers; routes = routes })
+  Ok (record { workers = workers; passes = passes; peers = peers; routes = routes; avoids_return = format == 4 })
 
 -- the table that toml reads from the text, if it reads one
 abbrev pub document_of : List ℕ → Option Members

@@ -45,6 +45,7 @@ impl Peer {
     {
         self.rules.challenge_prefix = drawn.prefix();
         self.rules.call_tokens = with_key(&drawn.token_key, self.rules.call_tokens);
+        self.rules.poke_offset = drawn.poke_offset;
     }
 }
 

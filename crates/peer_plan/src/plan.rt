@@ -22,10 +22,8 @@ use std::alloc::{AllocError, Global};
 use std::marker::Model;
 use toml::Table;
 
-/// A plan: its workers, its peers with their numbers and rules, and its routes.
-///
-/// `read` makes it from a text and takes memory; nothing else does. A peer and a worker are named by their places,
-/// from 0 on.
+/// A plan: its workers, its peers with their numbers and rules, and its routes. A peer and a worker are named by their places,
+/// from 0 on. `read` makes it from a text and takes memory; nothing else does.
 pub struct Plan {
     workers: Vec<Endpoint>,
     passes: u16,
@@ -34,6 +32,8 @@ pub struct Plan {
     endpoints: Vec<Endpoint>,
     counts: Vec<u16>,
     routes: Routes,
+    // Whether a route for the calls of all isn't for those of the peer to which it leads.
+    avoids_return: bool,
 }
 
 // Written out, so that an owner proves one call at its drop, not the drop of each field.
@@ -46,6 +46,7 @@ impl Drop for Plan {
             endpoints: _,
             counts: _,
             routes: _,
+            avoids_return: _,
         } = self;
     }
 }
@@ -63,6 +64,7 @@ impl Model for Plan {
 }
 
 impl Plan {
+    ghost use Rattle.peer_plan.specs.declared.peer.Peer.{Peer};
     ghost use Rattle.peer_plan.specs.declared.route.Route.{Route};
 
     /// Reads the plan of a text in TOML, of version 1, 2 or 4, or returns its first fault.
@@ -109,6 +111,7 @@ impl Plan {
             endpoints,
             counts,
             routes,
+            avoids_return,
         } = self;
         Plan {
             workers,
@@ -117,11 +120,12 @@ impl Plan {
             endpoints,
             counts,
             routes,
+            avoids_return,
         }
     }
 
-    /// Returns the same plan, of an exchange that drew these values when it was opened. A hardened leg doesn't answer a
-    /// challenge that begins with the prefix. A peer that is asked for call tokens gets those of the key.
+    /// Returns the same plan, of an exchange that drew these values when it was opened: the prefix of its challenges, the key
+    /// of its call tokens, and the offset of its POKEs' timestamps.
     pub fn with_drawn(self, drawn: &Drawn) -> Plan
         ensures { result ≡ record self { peers = map (with_drawn drawn.now) self.peers } }
     {
@@ -132,6 +136,7 @@ impl Plan {
             endpoints,
             counts,
             routes,
+            avoids_return,
         } = self;
         for peer in peers.iter_mut() {
             peer.take_drawn(drawn);
@@ -143,6 +148,7 @@ impl Plan {
             endpoints,
             counts,
             routes,
+            avoids_return,
         }
     }
 
@@ -154,6 +160,16 @@ impl Plan {
         match self.peers.first() {
             Some(peer) => peer.rules.challenge_prefix.as_ref(),
             None => None,
+        }
+    }
+
+    /// Returns what the exchange adds to the moments in the timestamps of its POKEs, modulo 2^32.
+    pub fn poke_offset(&self) -> u32
+        ensures { (peer : Peer) → slice_get self.now.peers 0 ≡ Some peer → result ≡ peer.rules.poke_offset }
+    {
+        match self.peers.first() {
+            Some(peer) => peer.rules.poke_offset,
+            None => 0,
         }
     }
 
@@ -195,6 +211,14 @@ impl Plan {
         ensures place { IfSome result (λ source. source < length self.now.peers) }
     {
         self.routes.get(route).source
+    }
+
+    /// Returns whether a route for the calls of all isn't for those of the peer to which it leads: true exactly in plan
+    /// version 4.
+    pub fn avoids_return(&self) -> bool
+        ensures { result ≡ self.now.avoids_return }
+    {
+        self.avoids_return
     }
 
     /// Whether a route has this prefix, and this peer as its source; with none, whether a route for the calls of all has it.
@@ -303,15 +327,17 @@ impl Plan {
     }
 
     /// Returns the peer to which a call of a peer is routed. The longest prefix of the called number decides, among the
-    /// routes for all and those for this caller. Of two prefixes of one length the caller's own leads. Returns `None` if no
-    /// such route has a prefix of the number. Makes two binary searches for each length of a prefix, and takes no memory.
+    /// routes for all and those for this caller. Of two prefixes of one length the caller's own leads. In plan version 4 no
+    /// route for all leads a call back to its caller: it takes the next nearest. Returns `None` if no such route has a prefix
+    /// of the number. Makes two binary searches for each length of a prefix, and takes no memory.
     pub fn route(&self, caller: PeerId, number: &[u8]) -> Option<u16>
-        ensures found { IfSome result (λ peer. (route : Route) × IsNearest self.now.routes caller number.now route ×
-            (route.peer ≡ peer)) }
-        ensures none { IfNone result (All (λ route. fits caller number.now route ≡ false) self.now.routes) }
+        ensures found { IfSome result (λ peer. (route : Route) ×
+            IsNearest self.now.avoids_return self.now.routes caller number.now route × (route.peer ≡ peer)) }
+        ensures none { IfNone result
+            (All (λ route. fits self.now.avoids_return caller number.now route ≡ false) self.now.routes) }
         ensures place { IfSome result (λ peer. peer < length self.now.peers) }
     {
-        let route = self.routes.nearest(caller, number)?;
+        let route = self.routes.nearest(self.avoids_return, caller, number)?;
         Some(route.peer.get())
     }
 }
@@ -339,6 +365,7 @@ fn plan_in(alloc: Global, table: &Table) -> Result<Plan, PlanError>
         endpoints,
         counts,
         routes,
+        avoids_return: format == 4,
     })
 }
 

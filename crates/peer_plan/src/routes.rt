@@ -1,7 +1,8 @@
 //! The routes of a plan, and the route of a call.
-ghost use Rattle.std.specs.Prelude.{ℕ, ◌≡◌, ◌≢◌, ◌≤◌, ◌<◌, true, false, length, slice_get, All, Contains};
+ghost use Rattle.std.specs.Prelude.{ℕ, ◌≡◌, ◌≢◌, ◌≤◌, ◌<◌, true, false, length, slice_get, None, All, Contains};
 ghost use Rattle.std.specs.Prelude.{IfSome, IfNone, IfOk};
-ghost use Rattle.peer_plan.specs.Plan.{is_open_to, fits, nearness, IsNearest};
+ghost use Rattle.std.specs.List.{AllPairs};
+ghost use Rattle.peer_plan.specs.Plan.{is_open_to, fits, nearness, AreApart, IsNearest};
 ghost use Rattle.peer_plan.specs.Reading.{has_way, has_same_way};
 ghost use Rattle.peer_plan.specs.RouteIndex.{way_at, way_cmp, IsIndex};
 
@@ -84,28 +85,46 @@ impl Routes {
         self.find(prefix, source).is_some()
     }
 
-    // Of the routes with this prefix that a call of a peer may take, the one with a source, or else the other.
-    fn with_prefix(&self, prefix: &[u8], caller: PeerId) -> Option<&Route>
+    // The route for the calls of all with this prefix, unless it leads a call back to its caller and returns are avoided.
+    fn for_all(&self, avoids_return: bool, prefix: &[u8], caller: PeerId) -> Option<&Route>
+        requires { AllPairs AreApart self.now }
         ensures found { IfSome result (λ route. Contains self.now route.now × (route.now.prefix ≡ prefix.now) ×
-            (is_open_to caller route.now ≡ true) ×
-            All (λ other. other.prefix ≡ prefix.now → is_open_to caller other ≡ true →
+            (route.now.source ≡ None) × (is_open_to avoids_return caller route.now ≡ true)) }
+        ensures none { IfNone result (All (λ route. route.prefix ≡ prefix.now → route.source ≡ None →
+            is_open_to avoids_return caller route ≡ false) self.now) }
+    {
+        let route = self.find(prefix, None)?;
+        if avoids_return && route.peer == caller {
+            return None;
+        }
+        Some(route)
+    }
+
+    // Of the routes with this prefix that a call of a peer may take, the one with a source, or else the other.
+    fn with_prefix(&self, avoids_return: bool, prefix: &[u8], caller: PeerId) -> Option<&Route>
+        requires { AllPairs AreApart self.now }
+        ensures found { IfSome result (λ route. Contains self.now route.now × (route.now.prefix ≡ prefix.now) ×
+            (is_open_to avoids_return caller route.now ≡ true) ×
+            All (λ other. other.prefix ≡ prefix.now → is_open_to avoids_return caller other ≡ true →
             nearness other ≤ nearness route.now) self.now) }
-        ensures none { IfNone result (All (λ route. route.prefix ≡ prefix.now → is_open_to caller route ≡ false) self.now) }
+        ensures none { IfNone result (All (λ route. route.prefix ≡ prefix.now →
+            is_open_to avoids_return caller route ≡ false) self.now) }
     {
         match self.find(prefix, Some(caller)) {
             Some(route) => Some(route),
-            None => self.find(prefix, None),
+            None => self.for_all(avoids_return, prefix, caller),
         }
     }
 
     // Of the routes that a call may take, the one with the longest prefix, and of two of one length the one with a source.
-    pub(crate) fn nearest(&self, caller: PeerId, text: &[u8]) -> Option<&Route>
-        ensures found { IfSome result (λ route. IsNearest self.now caller text.now route.now) }
-        ensures none { IfNone result (All (λ route. fits caller text.now route ≡ false) self.now) }
+    pub(crate) fn nearest(&self, avoids_return: bool, caller: PeerId, text: &[u8]) -> Option<&Route>
+        requires { AllPairs AreApart self.now }
+        ensures found { IfSome result (λ route. IsNearest avoids_return self.now caller text.now route.now) }
+        ensures none { IfNone result (All (λ route. fits avoids_return caller text.now route ≡ false) self.now) }
     {
         let mut length = self.longest.min(text.len());
         loop {
-            if let Some(route) = self.with_prefix(&text[..length], caller) {
+            if let Some(route) = self.with_prefix(avoids_return, &text[..length], caller) {
                 return Some(route);
             }
             if length == 0 {

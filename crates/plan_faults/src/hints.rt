@@ -95,7 +95,9 @@ fn write_hint(source: Source<'_>, warning: &Warning<'_>, line: &mut TextBuffer) 
             line.text(" stands for itself: a prefix is no pattern of a dialplan");
         }
         Hint::Unused => {
-            line.text("no call takes it: each peer has a route of its own with this prefix")
+            line.text(
+                "no call takes it: each peer that it is for has a route of its own with this prefix",
+            )
         }
         Hint::NoCommonFormat(caller) => {
             line.labelled("calls of peer ", u64::from(caller));

@@ -26,7 +26,8 @@ pub enum Upgrade {
 // The comment below the version.
 const HEAD: &str =
     "# Version 4 carries who calls and why a call ended from leg to leg, lets a call take any format that its peers have in\n\
-# common, and answers no challenge of its own. Versions 1 and 2 do none of this, and no key turns it off.\n";
+# common, and answers no challenge of its own. Versions 1 and 2 do none of this, and no key turns it off.\n\
+# No route without a source leads a call back to its caller. One whose source is its own peer does, as before.\n";
 
 // The keys whose default differs, each with the value that is nearest to that of the older versions.
 static LIMITS: [(Key, &str); 4] = [

@@ -72,12 +72,25 @@ fn is_led_to(plan: &Plan, peer: PeerId) -> bool {
     false
 }
 
-// Returns whether no caller takes a route for all: each peer has a route with the same prefix for its own calls.
+// Returns how many peers can't take a route for all, though none has a route with the same prefix for its own calls: one in
+// plan version 4, the peer to which the route leads.
+fn kept_away(plan: &Plan, route: usize) -> usize
+    requires { route < length plan.now.routes }
+{
+    let is_kept_away = plan.avoids_return()
+        && !plan.has_route(plan.prefix(route), Some(plan.target(route)));
+    usize::from(is_kept_away)
+}
+
+// Returns whether no caller takes a route for all: each peer that could has a route with the same prefix for its own calls.
 fn is_unused(plan: &Plan, ways: &[Way<'_>], route: usize) -> bool
     requires { route < length plan.now.routes }
 {
+    if plan.source(route).is_some() {
+        return false;
+    }
     let count = prefix_count(ways, plan.prefix(route).as_bytes());
-    plan.source(route).is_none() && count > usize::from(plan.peer_count())
+    count.saturating_add(kept_away(plan, route)) > usize::from(plan.peer_count())
 }
 
 fn have_common_format(formats: Formats, others: Formats) -> bool {

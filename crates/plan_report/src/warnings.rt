@@ -30,25 +30,11 @@ fn warn_of_credentials(plan: &Plan, peer: PeerId, report: &mut TextBuffer)
         report.text("warning: ");
         report.text(name);
         report.text(" has no secret: whoever sends from its address can call\n");
+    } else if rules.is_hardened && rules.call_tokens.is_none() {
+        report.text("warning: ");
+        report.text(name);
+        report.text(" has a secret and no call_token: forged NEWs can take half of its numbers\n");
     }
-}
-
-// Warns of a route that leads a peer's calls back to the peer.
-fn warn_of_return(plan: &Plan, route: usize, report: &mut TextBuffer)
-    requires { route < length plan.now.routes }
-{
-    let peer = plan.target(route);
-    if plan.source(route) != Some(peer) {
-        return;
-    }
-    let target = plan.name(peer);
-    report.text("warning: route \"");
-    report.text(plan.prefix(route));
-    report.text("\" leads calls of ");
-    report.text(target);
-    report.text(" back to ");
-    report.text(target);
-    report.text("\n");
 }
 
 // Which peers the routes lead to, each by its place. A plan has at most 32 peers.
@@ -86,6 +72,43 @@ fn reaches(targets: &Targets, caller: PeerId, target: PeerId) -> bool
     targets.for_all[target] || targets.for_one[target][caller.index()]
 }
 
+// Whether a route for all takes calls of a peer. In plan version 4 one that leads to this peer doesn't.
+fn calls_by_routes_for_all(targets: &Targets, caller: PeerId, avoids_return: bool) -> bool {
+    for (target, is_led_to) in targets.for_all.iter().enumerate() {
+        let is_return = target == caller.index();
+        if *is_led_to && !(avoids_return && is_return) {
+            return true;
+        }
+    }
+    false
+}
+
+// Warns of a peer to which a route for all leads and whose calls such routes take, because these calls may go round.
+fn warn_of_ring(plan: &Plan, peer: PeerId, targets: &Targets, report: &mut TextBuffer)
+    requires { peer < length plan.now.peers }
+{
+    // (for the prover: a plan has at most 32 peers)
+    let _count = plan.peer_count();
+    let avoids_return = plan.avoids_return();
+    if !targets.for_all[peer.index()] || !calls_by_routes_for_all(targets, peer, avoids_return) {
+        return;
+    }
+    let name = plan.name(peer);
+    report.text("warning: routes for all lead ");
+    if avoids_return {
+        report.text("to ");
+        report.text(name);
+        report.text(", and its calls to others: a ring of three exchanges");
+    } else {
+        report.text("calls of ");
+        report.text(name);
+        report.text(" back to ");
+        report.text(name);
+        report.text(": two exchanges");
+    }
+    report.text(" may pass one call on without end\n");
+}
+
 fn warn_of_formats(plan: &Plan, caller: PeerId, target: PeerId, report: &mut TextBuffer)
     requires caller { caller < length plan.now.peers }
     requires target { target < length plan.now.peers }
@@ -112,10 +135,10 @@ pub(crate) fn write_warnings(plan: &Plan, report: &mut TextBuffer) {
     for place in 0..plan.peer_count() {
         warn_of_credentials(plan, PeerId::new(place), report);
     }
-    for route in 0..plan.route_count() {
-        warn_of_return(plan, route, report);
-    }
     let targets = targets_of(plan);
+    for place in 0..plan.peer_count() {
+        warn_of_ring(plan, PeerId::new(place), &targets, report);
+    }
     for to in 0..plan.peer_count() {
         for from in 0..plan.peer_count() {
             let (caller, target) = (PeerId::new(from), PeerId::new(to));

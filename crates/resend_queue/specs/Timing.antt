@@ -11,6 +11,10 @@ module _ {F : Type 0} where
   abbrev pub marked : ℕ → Held F → Held F
   marked now held = record held { last = now; tries = min (held.tries + 1) (2 ^ 32 - 1) }
 
+  -- sent again, with one try fewer, so that the next try replaces one before
+  abbrev pub hastened : ℕ → Held F → Held F
+  hastened moment held = record held { last = moment; tries = held.tries - 1 }
+
   -- sent again, which is no try
   abbrev pub touched : ℕ → Held F → Held F
   touched now held = record held { last = now }

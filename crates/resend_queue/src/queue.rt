@@ -1,9 +1,12 @@
 //! The frames that wait, the oldest first.
 
-ghost use Rattle.std.specs.Prelude.{◌≡◌, ℕ, ◌≤◌, ◌<◌, ◌↔◌, ◌++◌, ◌∷◌, ◌==◌, [], length, drop, map, position, slice_get};
+ghost use Rattle.std.specs.Prelude.{◌≡◌, ℕ, ◌*◌, ◌≤◌, ◌<◌, ◌↔◌, ◌++◌, ◌∷◌, ◌==◌, [], length, drop, map, position, slice_get};
 ghost use Rattle.std.specs.Prelude.{option_copied, IfOk, IfSome, OnOk, OnErr, IfErr, IsOk};
-ghost use Rattle.resend_queue.specs.Timing.{is_due, marked, touched, changed_at};
+ghost use Rattle.resend_queue.specs.Timing.{is_due, marked, hastened, touched, changed_at};
+ghost use Rattle.std.specs.Mem.{type_size};
 ghost use Rattle.memory_requests.specs.Refused.{WasRefused};
+ghost use Rattle.memory_requests.specs.Requests.{most_octets};
+ghost use Rattle.resend_queue.specs.contracts.held_frame.Held.{the_row};
 
 use crate::held_frame::Held;
 use circular_buffer::HeapCircularBuffer;
@@ -34,10 +37,12 @@ impl<F> Model for Resend<F> {
 }
 
 impl<F: Drop> Resend<F> {
-    /// Returns an empty queue with room for `width` frames, 1 ..= 127. Returns `Err` only if memory was refused.
+    /// Returns an empty queue with room for `width` frames, 1 ..= 127, of at most 90,965,356 octets together. Returns `Err`
+    /// only if memory was refused.
     pub fn new(alloc: Global, width: u8) -> Result<Self, AllocError>
         requires some { 1 ≤ width }
         requires most { width ≤ 127 }
+        requires small { width * type_size (the_row F.row) ≤ most_octets }
         ensures empty { IfOk result (λ q. q ≡ record { held = []; width = width }) }
         ensures no_memory { OnErr result WasRefused }
     {
@@ -113,8 +118,19 @@ impl<F: Drop> Resend<F> {
         held.tries = held.tries.saturating_add(1);
     }
 
-    /// Marks the frame at a place, 0 for the oldest, as retransmitted at the moment `now`, in milliseconds. That is no try.
-    pub fn touch(&mut self, place: usize, now: u64)
+    /// Marks the frame at a place, 0 for the oldest, as retransmitted at the moment `moment`, in milliseconds, with one try
+    /// fewer if it has any. A moment in the past has it due sooner, and that try counts in place of one before.
+    pub fn hasten(&mut self, place: usize, moment: u64)
+        requires { place < length self.old.held }
+        ensures { self.new ≡ record { held = changed_at (hastened moment) place self.old.held; width = self.old.width } }
+    {
+        let held = self.ring.get_mut(place).unwrap();
+        held.last = moment;
+        held.tries = held.tries.saturating_sub(1);
+    }
+
+    // Marks the frame at a place, 0 for the oldest, as retransmitted at the moment `now`, in milliseconds. That is no try.
+    fn touch(&mut self, place: usize, now: u64)
         requires { place < length self.old.held }
         ensures { self.new ≡ record { held = changed_at (touched now) place self.old.held; width = self.old.width } }
     {

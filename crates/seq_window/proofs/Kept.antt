@@ -78,6 +78,9 @@ kept-map entries change first (h ∷ hs) (f ∷ fs) keeps are = (
       are.2,
 )
 
+pub hastened_keeps : (moment : ℕ) → Keeps (queue.hastened moment)
+hastened_keeps moment = record { number = λ h. refl; frame = λ h. refl }
+
 pub touched_keeps : (now : ℕ) → Keeps (queue.touched now)
 touched_keeps now = record { number = λ h. refl; frame = λ h. refl }
 

@@ -104,14 +104,18 @@ held_at w place = slice_get (held_frames w) place
 abbrev pub touched : ℕ → Sending → Sending
 touched now s = record { last = now; tries = s.tries }
 
+-- .. with one try fewer, so that the next try replaces one before
+abbrev pub hastened : ℕ → Sending → Sending
+hastened moment s = record { last = moment; tries = s.tries - 1 }
+
 -- the one at a place changed
 abbrev pub change_at : (Sending → Sending) → ℕ → List Sending → List Sending
 change_at change place [] = []
 change_at change zero (s ∷ sendings) = change s ∷ sendings
 change_at change (suc place) (s ∷ sendings) = s ∷ change_at change place sendings
 
-abbrev pub after_touching : WindowState → ℕ → ℕ → WindowState
-after_touching w place now = record w { sendings = change_at (touched now) place w.sendings }
+abbrev pub after_hastening : WindowState → ℕ → ℕ → WindowState
+after_hastening w place moment = record w { sendings = change_at (hastened moment) place w.sendings }
 
 abbrev pub after_touching_all : WindowState → ℕ → WindowState
 after_touching_all w now = record w { sendings = map (touched now) w.sendings }

@@ -94,6 +94,8 @@ pub struct Record {
 
 // The greatest number of octets that a frame carries.
 const MAX_PAYLOAD: usize = 1388;
+// The greatest number of entries of a record.
+const MAX_ENTRIES: usize = 65536;
 
 impl Model for Record {
     ghost use Rattle.seq_window.specs.Record.{RecordState};
@@ -141,19 +143,25 @@ impl Record {
         self.spare
     }
 
-    /// Makes room for `count` more entries.
+    /// Makes room for `count` more entries. No record has more than 65,536, but a greater count is asked for as well.
     pub(crate) fn reserve(&mut self, count: usize) -> Result<(), AllocError>
         ensures entries { self.new.entries ≡ self.old.entries }
         ensures spare { OnOk result (self.new.spare ≡ max self.old.spare count) }
         ensures had_room { count ≤ self.old.spare → IsOk result }
         ensures err { OnErr result (self.new ≡ self.old) }
-        ensures no_memory { OnErr result WasRefused }
+        ensures no_memory { count ≤ 65536 → OnErr result WasRefused }
     {
         if count <= self.spare {
             return Ok(());
         }
-        reserve(&mut self.heads, count)?;
-        reserve_octets(&mut self.octets, count)?;
+        if count <= MAX_ENTRIES {
+            reserve(&mut self.heads, count)?;
+            reserve_octets(&mut self.octets, count)?;
+        } else {
+            self.heads.reserve(count)?;
+            let needed = octets_of(count, MAX_PAYLOAD)?;
+            self.octets.reserve(needed)?;
+        }
         self.spare = count;
         Ok(())
     }
@@ -231,14 +239,15 @@ impl Record {
 // Makes room for the octets of `count` more frames. A request for memory also asks for room for one more frame of the
 // greatest length. Most frames are short, so many of them fit without another request, which would move all octets.
 fn reserve_octets(octets: &mut Vec<u8>, count: usize) -> Result<(), AllocError>
+    requires few { count ≤ 65536 }
     ensures octets { octets.new.items ≡ octets.old.items }
     ensures room { OnOk result (length octets.new.items + 1388 * count ≤ vec_capacity octets.new) }
     ensures kept { vec_capacity octets.old ≤ vec_capacity octets.new }
     ensures no_memory { OnErr result WasRefused }
 {
-    let needed = octets_of(count, MAX_PAYLOAD)?;
+    let needed = count * MAX_PAYLOAD;
     if octets.capacity() - octets.len() < needed {
-        reserve(octets, needed.saturating_add(MAX_PAYLOAD))?;
+        reserve(octets, needed + MAX_PAYLOAD)?;
     }
     Ok(())
 }

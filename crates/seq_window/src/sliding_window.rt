@@ -7,7 +7,7 @@ ghost use Rattle.seq_window.specs.History.{sent_count, taken_count, acked_count,
 ghost use Rattle.seq_window.specs.Record.{frame_of};
 ghost use Rattle.seq_window.specs.HeldFrame.{held_of};
 ghost use Rattle.seq_window.specs.Window.{held_count, entry_count, is_full, judged_acknowledgement, count_of, judged_number};
-ghost use Rattle.seq_window.specs.Window.{after_sending, after_acknowledgement, after_receiving, held_at, after_touching};
+ghost use Rattle.seq_window.specs.Window.{after_sending, after_acknowledgement, after_receiving, held_at, after_hastening};
 ghost use Rattle.seq_window.specs.Window.{after_touching_all, first_due, tries_at, after_marking, resent, after_resent};
 ghost use Rattle.seq_window.specs.Window.{IsPlaceBelow};
 ghost use Rattle.memory_requests.specs.Refused.{WasRefused};
@@ -140,7 +140,7 @@ impl Window {
         ensures err { OnErr result (self.new ≡ self.old) }
         ensures no_memory { result ≡ Err RecordError.Memory → WasRefused }
     {
-        let judged = self.judged(iseq);
+        let judged = self.judge_acknowledgement(iseq);
         let Acknowledged::Acked(count) = judged else {
             return Ok(judged);
         };
@@ -158,9 +158,9 @@ impl Window {
         Ok(judged)
     }
 
-    // Judges an acknowledgement. The steps from the oldest held number to the acknowledged one count, up to the number of held
-    // frames.
-    fn judged(&self, iseq: u8) -> Acknowledged
+    /// Judges an acknowledgement by its ISeqno ("Message Transport"), as `acknowledge` does. The steps from the oldest held
+    /// number to the acknowledged one count, up to the number of held frames.
+    pub fn judge_acknowledgement(&self, iseq: u8) -> Acknowledged
         ensures { result ≡ judged_acknowledgement self.now.state.history iseq }
     {
         let distance = iseq.wrapping_sub(self.oldest);
@@ -264,14 +264,14 @@ impl Window {
         self.held.mark(place, now);
     }
 
-    /// Marks the held frame at a place, 0 for the oldest, as retransmitted at the moment `now`, in milliseconds. That is no
-    /// try.
-    pub fn touch(&mut self, place: usize, now: u64)
+    /// Marks the held frame at a place, 0 for the oldest, as retransmitted at the moment `moment`, in milliseconds, with one
+    /// try fewer if it has any. A moment in the past has it due sooner, and that try counts in place of one before.
+    pub fn hasten(&mut self, place: usize, moment: u64)
         requires { place < held_count self.old.state }
-        ensures state { self.new.state ≡ after_touching self.old.state place now }
+        ensures state { self.new.state ≡ after_hastening self.old.state place moment }
         ensures spare { self.new.spare ≡ self.old.spare }
     {
-        self.held.touch(place, now);
+        self.held.hasten(place, moment);
     }
 
     /// Marks each held frame as retransmitted at the moment `now`, in milliseconds. That is no try.
@@ -284,14 +284,14 @@ impl Window {
 
     /// Reserves room for `count` more entries: this number of calls of `send`, `acknowledge` and `receive` isn't refused
     /// for memory. Returns `Err` only if memory was refused, and never if there is that room already; then nothing is
-    /// changed.
+    /// changed. No record has more than 65,536 entries, but a greater count is asked for as well.
     pub fn reserve(&mut self, count: usize) -> Result<(), AllocError>
         ensures state { self.new.state ≡ self.old.state }
         ensures ok { OnOk result (count ≤ self.new.spare) }
         ensures spare { self.old.spare ≤ self.new.spare }
         ensures had_room { count ≤ self.old.spare → IsOk result }
         ensures err { OnErr result (self.new ≡ self.old) }
-        ensures no_memory { OnErr result WasRefused }
+        ensures no_memory { count ≤ 65536 → OnErr result WasRefused }
     {
         self.history.reserve(count)
     }

@@ -18,7 +18,7 @@ const REFUSED: Told = Told {
 const REJECTED: Told = Told {
     kind: Kind::Counter,
     name: "iax_datagrams_rejected_total",
-    help: "Datagrams of the peer that an answer rejected, by name. Plan versions 1 and 2 answer a Reflection.",
+    help: "Datagrams of the peer that an answer rejected, and trunk frames of which entries were dropped, by name. Plan versions 1 and 2 answer a Reflection.",
 };
 
 const FAILED: Told = Told {

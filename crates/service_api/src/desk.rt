@@ -1,18 +1,29 @@
 //! The requests of clients to the exchange, and the answers.
-ghost use Rattle.std.specs.Prelude.{◌≡◌, ◌<◌, IfOk, length, string_bytes};
+ghost use Rattle.std.specs.Prelude.{◌≡◌, ◌<◌, IfOk, Ok, length, string_bytes};
+ghost use Rattle.control_requests.specs.Operation.{operation_at};
+ghost use Rattle.control_requests.specs.declared.response.StatusCode.TheVariants as status;
+ghost use Rattle.exchange_core.specs.Draining.{drained};
+ghost use Rattle.service_api.specs.Accounts.{ShowsAccounts};
+ghost use Rattle.service_api.specs.Answered.{Answers};
+ghost use Rattle.service_api.specs.Calls.{ShowsCall, ShowsCalls};
+ghost use Rattle.service_api.specs.Orders.{AnswersCall, CountsLegs, EndsDrain, NamesLeg, ShowsDrain, ShowsEndedLeg, ShowsHungUp};
+ghost use Rattle.service_api.specs.Orders.{ShowsPlace, ShowsPlaced, WasCalled, fault_text};
+ghost use Rattle.service_api.specs.Peers.{ShowsPeers};
 
-use crate::legs::{find_leg, serial_at_rest};
-use crate::showing::{ShownLeg, push_calls};
+use crate::accounts::add_up;
+use crate::legs::{count_all, find_leg, serial_at_rest};
+use crate::peer_rows::push_peers;
+use crate::showing::{ShownLeg, push_all_calls};
 use call_book::LegName;
 use control_requests::{
-    AccountsRow, Operation, OperationError, PeerRow, PlaceFault, PlaceOrder, Request, Response,
-    Rows, StatusCode, accounts_body, call_body, operation_of, place_of,
+    Operation, OperationError, PlaceFault, PlaceOrder, Request, Response, Rows, StatusCode,
+    accounts_body, call_body, operation_of, place_of,
 };
 use exchange_core::{CallError, Exchange, NoGate, Pass};
-use exchange_report::{PeerLosses, call_error_name, count_legs, losses_of, peer_named};
-use peer_lock::{LedgerSet, Pokes};
-use peer_plan::{Endpoint, PeerId, Plan};
-use service_state::{AUTH_FAILURES, ServiceWatch, reach_of};
+use exchange_report::{call_error_name, peer_named};
+use peer_lock::LedgerSet;
+use peer_plan::PeerId;
+use service_state::ServiceWatch;
 use std::alloc::{AllocError, Global};
 use std::sync::Wait;
 use trace_writer::TraceLane;
@@ -63,34 +74,45 @@ impl<'x, J: LedgerSet> ApiHandler<'x, J> {
         alloc: Global,
         request: &Request<'_>,
         now: u64,
-    ) -> Result<Response, AllocError> {
-        match operation_of(request.method, request.path) {
+    ) -> Result<Response, AllocError>
+        ensures { IfOk result (λ answer. Answers (operation_at request.now.method.now request.now.path.now)
+            self.old.exchange.now request.now.body.now now answer self.old.pass self.new.pass) }
+    {
+        let operation = operation_of(request.method, request.path);
+        self.answer_to(rt, alloc, operation, request.body, now)
+    }
+
+    // Answers a request to an operation, with this body.
+    fn answer_to<R: Wait>(
+        &mut self,
+        rt: &R,
+        alloc: Global,
+        operation: Result<Operation, OperationError>,
+        body: &[u8],
+        now: u64,
+    ) -> Result<Response, AllocError>
+        ensures { IfOk result (λ answer. Answers operation self.old.exchange.now body.now now answer self.old.pass
+            self.new.pass) }
+    {
+        match operation {
             Ok(Operation::Table) => answered(alloc, StatusCode::Ok, TABLE),
             Ok(Operation::Peers) => self.peers(rt, alloc, now),
             Ok(Operation::Calls) => self.calls(rt, alloc, now),
             Ok(Operation::Call(number)) => self.call(rt, alloc, number, now),
             Ok(Operation::Accounts) => self.accounts(rt, alloc),
-            Ok(Operation::Place) => self.place(rt, alloc, request.body, now),
-            Ok(Operation::HangUp(number)) => {
-                let found = find_leg(rt, self.exchange, &mut self.pass, number);
-                match found {
-                    Some((_, name)) => self.drop_call(rt, alloc, name, now),
-                    None => Response::error(alloc, StatusCode::NotFound, "NoLeg"),
-                }
-            }
+            Ok(Operation::Place) => self.place(rt, alloc, body, now),
+            Ok(Operation::HangUp(number)) => self.end_leg(rt, alloc, number, now),
             Ok(Operation::Stop) => {
                 self.watch.lifecycle().stop();
                 answered(alloc, StatusCode::Accepted, "{}")
             }
             Ok(Operation::StopGracefully) => {
                 self.watch.lifecycle().stop_gracefully();
-                self.set_draining(rt, true, now);
-                self.drained(alloc, rt)
+                self.begin_drain(rt, alloc, now)
             }
             Ok(Operation::Drain) => {
                 self.watch.lifecycle().drain(true);
-                self.set_draining(rt, true, now);
-                self.drained(alloc, rt)
+                self.begin_drain(rt, alloc, now)
             }
             Ok(Operation::EndDrain) => self.end_drain(rt, alloc, now),
             Err(OperationError::NotFound) => Response::error(
@@ -105,34 +127,37 @@ impl<'x, J: LedgerSet> ApiHandler<'x, J> {
     }
 
     // Sets whether the peers drain: all of them, or none.
-    fn set_draining<R: Wait>(&mut self, rt: &R, drains: bool, now: u64) {
+    fn set_draining<R: Wait>(&mut self, rt: &R, drains: bool, now: u64)
+        ensures drained { self.new.pass ≡ drained (length self.old.exchange.now.peers) drains self.old.pass }
+        ensures exchange { self.new.exchange ≡ self.old.exchange }
+        ensures watch { self.new.watch ≡ self.old.watch }
+    {
         if let Some(lane) = &mut self.lane {
             lane.begin_drain(rt, now, drains);
         }
-        let exchange = self.exchange;
-        for place in 0..exchange.plan().peer_count() {
-            let peer = PeerId::new(place);
-            exchange.set_draining(rt, &mut self.pass, peer, drains);
-        }
+        self.exchange.set_all_draining(rt, &mut self.pass, drains);
         if let Some(lane) = &mut self.lane {
             lane.end_order(rt);
         }
     }
 
     // Returns the number of legs.
-    pub(crate) fn leg_count<R: Wait>(&mut self, rt: &R) -> u32 {
-        let exchange = self.exchange;
-        let mut legs: u32 = 0;
-        for place in 0..exchange.plan().peer_count() {
-            let peer = PeerId::new(place);
-            let count = count_legs(rt, exchange, &mut self.pass, peer);
-            legs = legs.saturating_add(u32::from(count));
-        }
-        legs
+    pub(crate) fn leg_count<R: Wait>(&mut self, rt: &R) -> u32
+        ensures { CountsLegs (length self.old.exchange.now.peers) result self.old.pass self.new.pass }
+    {
+        count_all(rt, self.exchange, &mut self.pass)
     }
 
-    // Answers a request to drain with the number of legs that are left.
-    fn drained<R: Wait>(&mut self, alloc: Global, rt: &R) -> Result<Response, AllocError> {
+    // Has all peers drain, and answers with the number of legs that are left.
+    fn begin_drain<R: Wait>(
+        &mut self,
+        rt: &R,
+        alloc: Global,
+        now: u64,
+    ) -> Result<Response, AllocError>
+        ensures { IfOk result (λ answer. ShowsDrain (length self.old.exchange.now.peers) answer self.old.pass self.new.pass) }
+    {
+        self.set_draining(rt, true, now);
         let legs = self.leg_count(rt);
         let body = format!(in alloc; "{{\"legs\":{}}}", legs)?;
         Ok(Response {
@@ -147,7 +172,9 @@ impl<'x, J: LedgerSet> ApiHandler<'x, J> {
         rt: &R,
         alloc: Global,
         now: u64,
-    ) -> Result<Response, AllocError> {
+    ) -> Result<Response, AllocError>
+        ensures { IfOk result (λ answer. EndsDrain (length self.old.exchange.now.peers) answer self.old.pass self.new.pass) }
+    {
         if !self.watch.lifecycle().drain(false) {
             return Response::error(alloc, StatusCode::Conflict, "Draining");
         }
@@ -156,41 +183,28 @@ impl<'x, J: LedgerSet> ApiHandler<'x, J> {
     }
 
     // `GET /peers`
-    fn peers<R: Wait>(&mut self, rt: &R, alloc: Global, now: u64) -> Result<Response, AllocError> {
+    fn peers<R: Wait>(&mut self, rt: &R, alloc: Global, now: u64) -> Result<Response, AllocError>
+        ensures { IfOk result (λ answer. ShowsPeers self.old.exchange.now answer self.old.pass self.new.pass) }
+    {
         let mut rows = Rows::new(alloc);
-        self.push_peers(rt, alloc, &mut rows, now)?;
+        push_peers(
+            rt,
+            alloc,
+            self.exchange,
+            &mut self.pass,
+            self.watch,
+            &mut rows,
+            now,
+        )?;
         shown(rows.into_peers(alloc))
     }
 
-    // Adds a row for each peer.
-    fn push_peers<R: Wait>(
-        &mut self,
-        rt: &R,
-        alloc: Global,
-        rows: &mut Rows,
-        now: u64,
-    ) -> Result<(), AllocError> {
-        let (exchange, watch) = (self.exchange, self.watch);
-        for place in 0..exchange.plan().peer_count() {
-            let peer = PeerId::new(place);
-            let counted = Counted {
-                legs: count_legs(rt, exchange, &mut self.pass, peer),
-                losses: losses_of(rt, exchange, &mut self.pass, peer),
-                pokes: exchange.pokes(rt, &mut self.pass, peer),
-            };
-            push_peer(alloc, rows, exchange.plan(), watch, peer, counted, now)?;
-        }
-        Ok(())
-    }
-
     // `GET /calls`
-    fn calls<R: Wait>(&mut self, rt: &R, alloc: Global, now: u64) -> Result<Response, AllocError> {
-        let exchange = self.exchange;
+    fn calls<R: Wait>(&mut self, rt: &R, alloc: Global, now: u64) -> Result<Response, AllocError>
+        ensures { IfOk result (λ answer. ShowsCalls self.old.exchange.now now answer self.old.pass self.new.pass) }
+    {
         let mut rows = Rows::new(alloc);
-        for place in 0..exchange.plan().peer_count() {
-            let peer = PeerId::new(place);
-            push_calls(rt, alloc, exchange, &mut self.pass, &mut rows, peer, now)?;
-        }
+        push_all_calls(rt, alloc, self.exchange, &mut self.pass, &mut rows, now)?;
         shown(rows.into_calls(alloc))
     }
 
@@ -201,7 +215,9 @@ impl<'x, J: LedgerSet> ApiHandler<'x, J> {
         alloc: Global,
         number: u16,
         now: u64,
-    ) -> Result<Response, AllocError> {
+    ) -> Result<Response, AllocError>
+        ensures { IfOk result (λ answer. ShowsCall self.old.exchange.now number now answer self.old.pass self.new.pass) }
+    {
         let exchange = self.exchange;
         let Some(peer) = exchange.plan().owner_of(number) else {
             return Response::error(alloc, StatusCode::NotFound, "NoLeg");
@@ -212,26 +228,29 @@ impl<'x, J: LedgerSet> ApiHandler<'x, J> {
         }
     }
 
-    // `GET /accounts`: the sums over all peers, modulo 2^64. Peers are read one after another while calls continue.
-    fn accounts<R: Wait>(&mut self, rt: &R, alloc: Global) -> Result<Response, AllocError> {
-        let mut row = AccountsRow {
-            accepted: 0,
-            packed: 0,
-            queued: 0,
-            dropped: 0,
-            quelched: 0,
-        };
-        let exchange = self.exchange;
-        for place in 0..exchange.plan().peer_count() {
-            let peer = PeerId::new(place);
-            let sums = exchange.sums(rt, &mut self.pass, peer);
-            row.accepted = row.accepted.wrapping_add(sums.accepted);
-            row.packed = row.packed.wrapping_add(sums.packed);
-            row.queued = row.queued.wrapping_add(sums.queued);
-            row.dropped = row.dropped.wrapping_add(sums.dropped);
-            row.quelched = row.quelched.wrapping_add(sums.quelched);
-        }
+    // `GET /accounts`
+    fn accounts<R: Wait>(&mut self, rt: &R, alloc: Global) -> Result<Response, AllocError>
+        ensures { IfOk result (λ answer. ShowsAccounts (length self.old.exchange.now.peers) answer self.old.pass self.new.pass) }
+    {
+        let row = add_up(rt, self.exchange, &mut self.pass);
         shown(accounts_body(alloc, row))
+    }
+
+    // `DELETE /calls/<number>`
+    fn end_leg<R: Wait>(
+        &mut self,
+        rt: &R,
+        alloc: Global,
+        number: u16,
+        now: u64,
+    ) -> Result<Response, AllocError>
+        ensures { IfOk result (λ answer. ShowsEndedLeg self.old.exchange.now number answer self.old.pass self.new.pass) }
+    {
+        let found = find_leg(rt, self.exchange, &mut self.pass, number);
+        match found {
+            Some((_, name)) => self.drop_call(rt, alloc, name, now),
+            None => Response::error(alloc, StatusCode::NotFound, "NoLeg"),
+        }
     }
 
     // `DELETE /calls/<number>`, of a leg that was found
@@ -241,7 +260,9 @@ impl<'x, J: LedgerSet> ApiHandler<'x, J> {
         alloc: Global,
         name: LegName,
         now: u64,
-    ) -> Result<Response, AllocError> {
+    ) -> Result<Response, AllocError>
+        ensures { IfOk result (λ answer. ShowsHungUp name answer self.old.pass self.new.pass) }
+    {
         let hung_up = self.hang_up(rt, name, now);
         self.watch.wake_all();
         match hung_up {
@@ -257,7 +278,9 @@ impl<'x, J: LedgerSet> ApiHandler<'x, J> {
         alloc: Global,
         body: &[u8],
         now: u64,
-    ) -> Result<Response, AllocError> {
+    ) -> Result<Response, AllocError>
+        ensures { IfOk result (λ answer. ShowsPlace self.old.exchange.now body.now answer self.old.pass self.new.pass) }
+    {
         match place_of(alloc, body) {
             Ok(order) => self.place_call(rt, alloc, &order, now),
             Err(PlaceFault::Memory) => Err(AllocError),
@@ -273,7 +296,10 @@ impl<'x, J: LedgerSet> ApiHandler<'x, J> {
         alloc: Global,
         order: &PlaceOrder,
         now: u64,
-    ) -> Result<Response, AllocError> {
+    ) -> Result<Response, AllocError>
+        ensures { IfOk result (λ answer. ShowsPlaced self.old.exchange.now (string_bytes order.now.peer) answer self.old.pass
+            self.new.pass) }
+    {
         let lifecycle = self.watch.lifecycle();
         if lifecycle.drains() || lifecycle.is_stopping() || lifecycle.has_ended() {
             return Response::error(alloc, StatusCode::Unavailable, "Draining");
@@ -281,7 +307,22 @@ impl<'x, J: LedgerSet> ApiHandler<'x, J> {
         let Some(peer) = peer_named(self.exchange.plan(), order.peer.as_bytes()) else {
             return Response::error(alloc, StatusCode::Unprocessable, "NoPeer");
         };
-        let number = order.number.as_bytes();
+        let called = self.call_peer(rt, peer, order.number.as_bytes(), now);
+        self.watch.wake_all();
+        call_answer(alloc, called)
+    }
+
+    // Places a call to a peer of the plan.
+    fn call_peer<R: Wait>(
+        &mut self,
+        rt: &R,
+        peer: PeerId,
+        number: &[u8],
+        now: u64,
+    ) -> Result<LegName, CallError>
+        requires { peer < length self.old.exchange.now.peers }
+        ensures { WasCalled peer result self.old.pass self.new.pass }
+    {
         if let Some(lane) = &mut self.lane {
             lane.begin_call(rt, now, peer, number);
         }
@@ -289,19 +330,27 @@ impl<'x, J: LedgerSet> ApiHandler<'x, J> {
         if let Some(lane) = &mut self.lane {
             lane.end_order(rt);
         }
-        self.watch.wake_all();
-        match called {
-            Ok(name) => named(alloc, StatusCode::Created, name),
-            Err(CallError::BadNumber) => {
-                Response::error(alloc, StatusCode::Unprocessable, "BadNumber")
-            }
-            Err(error) => Response::error(alloc, StatusCode::Conflict, call_error_name(error)),
+        called
+    }
+}
+
+// Returns the answer by the result of a call.
+fn call_answer(alloc: Global, called: Result<LegName, CallError>) -> Result<Response, AllocError>
+    ensures { IfOk result (AnswersCall called) }
+{
+    match called {
+        Ok(name) => named(alloc, StatusCode::Created, name),
+        Err(CallError::BadNumber) => {
+            Response::error(alloc, StatusCode::Unprocessable, "BadNumber")
         }
+        Err(error) => Response::error(alloc, StatusCode::Conflict, call_error_name(error)),
     }
 }
 
 // Returns the answer with this body, if there was memory for it.
-fn shown(body: Result<String, AllocError>) -> Result<Response, AllocError> {
+fn shown(body: Result<String, AllocError>) -> Result<Response, AllocError>
+    ensures { IfOk result (λ answer. (answer.status ≡ status.Ok) × (body ≡ Ok answer.body)) }
+{
     match body {
         Ok(body) => Ok(Response {
             status: StatusCode::Ok,
@@ -323,14 +372,16 @@ fn answered(alloc: Global, status: StatusCode, body: &str) -> Result<Response, A
 
 // Returns an answer that names a leg.
 fn named(alloc: Global, status: StatusCode, name: LegName) -> Result<Response, AllocError>
-    ensures { IfOk result (λ answer. answer.status ≡ status) }
+    ensures { IfOk result (NamesLeg status name) }
 {
     let body = format!(in alloc; "{{\"number\":{},\"serial\":{}}}", name.number, name.serial)?;
     Ok(Response { status, body })
 }
 
 // Returns the name of the reason why a body places no call.
-fn fault_name(fault: PlaceFault) -> &'static str {
+fn fault_name(fault: PlaceFault) -> &'static str
+    ensures { result.now ≡ fault_text fault }
+{
     match fault {
         PlaceFault::NotJson => "NotJson",
         PlaceFault::NoPeer => "NoPeer",
@@ -338,62 +389,4 @@ fn fault_name(fault: PlaceFault) -> &'static str {
         PlaceFault::NumberTooLong => "NumberTooLong",
         PlaceFault::Memory => "Memory",
     }
-}
-
-// Counts of a peer that are read under its lock.
-#[derive(Clone, Copy)]
-struct Counted {
-    legs: u16,
-    losses: PeerLosses,
-    pokes: Pokes,
-}
-
-// Returns the number of the peer's calls that failed to authenticate, modulo 2^64.
-fn unauthenticated(watch: &ServiceWatch, peer: PeerId) -> u64 {
-    let mut count: u64 = 0;
-    for failure in &AUTH_FAILURES {
-        count = count.wrapping_add(watch.unauthenticated(peer, *failure));
-    }
-    count
-}
-
-// Adds the row of a peer behind the others.
-fn push_peer(
-    alloc: Global,
-    rows: &mut Rows,
-    plan: &Plan,
-    watch: &ServiceWatch,
-    peer: PeerId,
-    counted: Counted,
-    now: u64,
-) -> Result<(), AllocError>
-    requires { peer < length plan.now.peers }
-{
-    let Endpoint { address, port } = plan.endpoint(peer);
-    let [a, b, c, d] = address;
-    let endpoint = format!(in alloc; "{a}.{b}.{c}.{d}:{port}")?;
-    let marks = watch.marks(peer);
-    let unanswered_since = counted.pokes.unanswered_since(plan.rules(peer), now);
-    let reach = reach_of(marks.heard, unanswered_since);
-    rows.push_peer(
-        alloc,
-        PeerRow {
-            name: plan.name(peer),
-            endpoint: &endpoint,
-            worker: plan.worker(peer).get(),
-            legs: counted.legs,
-            numbers: plan.range(peer).count,
-            silent_ms: marks.heard.map(|heard| now.saturating_sub(heard)),
-            received: marks.received,
-            refused: marks.refused,
-            sent: marks.sent,
-            lost: marks.lost,
-            outbox_lost: counted.losses.frames(),
-            queue_dropped: counted.losses.queue,
-            auth_failed: unauthenticated(watch, peer),
-            reach: reach.name(),
-            round_trip_ms: counted.pokes.round_trip,
-            unreachable_ms: reach.unreachable_ms(now),
-        },
-    )
 }

@@ -1,5 +1,7 @@
 //! The legs of an exchange, found and hung up by their local numbers.
-ghost use Rattle.std.specs.Prelude.{◌<◌, IfSome, length};
+ghost use Rattle.std.specs.Prelude.{◌≡◌, ◌<◌, IfErr, IfSome, None, OnOk, length};
+ghost use Rattle.exchange_core.specs.Denial.{denied_since};
+ghost use Rattle.service_api.specs.Orders.{CountsLegs, FindsLeg, IsKept};
 
 use crate::desk::ApiHandler;
 use call_book::LegName;
@@ -53,7 +55,10 @@ impl<'x, J: LedgerSet> ApiHandler<'x, J> {
         rt: &R,
         name: LegName,
         now: u64,
-    ) -> Result<(), &'static str> {
+    ) -> Result<(), &'static str>
+        ensures hung_up { OnOk result (denied_since self.old.pass self.new.pass ≡ None) }
+        ensures kept { IfErr result (λ why. IsKept why.now self.old.pass self.new.pass) }
+    {
         let exchange = self.exchange;
         if name.peer >= exchange.plan().peer_count() {
             return Err("NoLeg");
@@ -100,6 +105,24 @@ impl<'x, J: LedgerSet> ApiHandler<'x, J> {
     }
 }
 
+/// Returns the number of legs of all peers. Peers are asked one after another.
+#[tactic(auto, using(crate::proofs::Adding::counts_more))]
+pub(crate) fn count_all<J: LedgerSet, R: Wait>(
+    rt: &R,
+    exchange: &Exchange<NoGate, J>,
+    pass: &mut Pass<J>,
+) -> u32
+    ensures { CountsLegs (length exchange.now.peers) result pass.old pass.new }
+{
+    let mut legs: u32 = 0;
+    for place in 0..exchange.plan().peer_count() {
+        let peer = PeerId::new(place);
+        let count = count_legs(rt, exchange, pass, peer);
+        legs = legs.saturating_add(u32::from(count));
+    }
+    legs
+}
+
 // Returns whether no peer has a leg, and no media waits for a trunk frame.
 fn is_at_rest<J: LedgerSet, R: Wait>(
     rt: &R,
@@ -135,7 +158,8 @@ pub(crate) fn find_leg<J: LedgerSet, R: Wait>(
     pass: &mut Pass<J>,
     number: u16,
 ) -> Option<(PeerId, LegName)>
-    ensures { IfSome result (λ found. found.0 < length exchange.now.peers) }
+    ensures place { IfSome result (λ found. found.0 < length exchange.now.peers) }
+    ensures found { FindsLeg exchange.now number result pass.old pass.new }
 {
     let peer = exchange.plan().owner_of(number)?;
     let leg = exchange.status(rt, pass, peer, number)?;

@@ -1,17 +1,25 @@
 //! The current metrics of a service.
-ghost use Rattle.std.specs.Prelude.{◌<◌, length};
+ghost use Rattle.std.specs.Prelude.{◌≡◌, ◌<◌, ◌⊎◌, Some, codes, false, true, length};
+ghost use Rattle.std.specs.Prelude.{IfOk, IfSome, IsNone, IsSome, IsSomeAnd, OnErr};
+ghost use Rattle.control_requests.specs.Response.{refusal_text};
+ghost use Rattle.control_requests.specs.declared.response.StatusCode.TheVariants as status;
+ghost use Rattle.service_api.specs.Figures.{ShowsFigures};
+ghost use Rattle.service_api.specs.Kept.{KeepsAnswer, is_fresh};
+ghost use Rattle.service_state.specs.Scrape.{scrape_of};
+ghost use Rattle.service_state.specs.declared.scrape.Scrape.TheVariants as scrape;
 
 use crate::by_name::{push_failed_calls, push_failures, push_refusals, push_rejections};
 use crate::desk::ApiHandler;
+use crate::kept_answer::KeptAnswer;
 use crate::lost_frames::push_losses;
 use control_requests::{Methods, Request, Response, StatusCode};
 use exchange_core::{Exchange, NoGate, Pass};
 use exchange_report::count_legs;
 use peer_lock::LedgerSet;
-use peer_plan::{PeerId, Plan};
+use peer_plan::PeerId;
 use service_state::{
-    DropCount, Family, Kind, Label, Labels, Metrics, PeerFigures, Sample, Scrape, ServiceWatch,
-    SocketTable, drop_counts, reach_of, scrape_of,
+    Family, Kind, Label, Labels, Metrics, PeerFigures, Sample, Scrape, ServiceWatch, reach_of,
+    scrape_of,
 };
 use std::alloc::{AllocError, Global};
 use std::iter;
@@ -97,6 +105,7 @@ fn figures_of<'x, J: LedgerSet, R: Wait>(
     now: u64,
 ) -> PeerFigures<'x>
     requires { peer < length exchange.now.peers }
+    ensures { ShowsFigures exchange.now peer result pass.old pass.new }
 {
     let legs = count_legs(rt, exchange, pass, peer);
     let sums = exchange.sums(rt, pass, peer);
@@ -160,14 +169,15 @@ fn push_peers<J: LedgerSet, R: Wait>(
     metrics.push_figures(alloc, &peers)
 }
 
-// Adds the drops at the workers' sockets that are known.
-fn push_counts(
+// Adds the datagrams that the system dropped at the workers' sockets, as far as they are known.
+fn push_drops(
     alloc: Global,
     metrics: &mut Metrics,
-    counts: &[DropCount],
+    watch: &ServiceWatch,
 ) -> Result<(), AllocError> {
+    let counts = watch.drops().counts(alloc)?;
     let mut samples = Vec::new(alloc);
-    for count in counts {
+    for count in &counts {
         if let Some(value) = count.drops {
             let labels = Labels::One(Label {
                 name: "worker",
@@ -177,17 +187,6 @@ fn push_counts(
         }
     }
     push_family(alloc, metrics, &DROPPED, &samples)
-}
-
-// Adds the datagrams that the system dropped at the workers' sockets, as far as the system reports them.
-fn push_drops(
-    table: &mut SocketTable,
-    alloc: Global,
-    metrics: &mut Metrics,
-    plan: &Plan,
-) -> Result<(), AllocError> {
-    let counts = drop_counts(table, alloc, plan)?;
-    push_counts(alloc, metrics, &counts)
 }
 
 // Adds one value of the whole service for each family.
@@ -229,59 +228,109 @@ fn push_all_totals(
     Ok(())
 }
 
-// Adds all current metrics.
-fn push_all<J: LedgerSet, R: Wait>(
+// Adds the part of the metrics with this number, if there is one. Each takes so little time that orders can be looked for
+// between two parts.
+fn push_part<J: LedgerSet, R: Wait>(
     rt: &R,
     alloc: Global,
     metrics: &mut Metrics,
     desk: &mut ApiHandler<'_, J>,
-    table: &mut SocketTable,
+    part: u32,
     now: u64,
-) -> Result<(), AllocError> {
+) -> Result<bool, AllocError> {
     let (exchange, watch) = (desk.exchange, desk.watch);
-    push_peers(rt, alloc, metrics, exchange, &mut desk.pass, watch, now)?;
-    push_refusals(alloc, metrics, exchange.plan(), watch)?;
-    push_rejections(alloc, metrics, exchange.plan(), watch)?;
-    push_failures(alloc, metrics, exchange.plan(), watch)?;
-    push_failed_calls(alloc, metrics, exchange.plan(), watch)?;
-    push_losses(rt, alloc, metrics, exchange, &mut desk.pass)?;
-    push_all_totals(alloc, metrics, watch)?;
-    push_drops(table, alloc, metrics, exchange.plan())
+    match part {
+        0 => push_peers(rt, alloc, metrics, exchange, &mut desk.pass, watch, now)?,
+        1 => push_refusals(alloc, metrics, exchange.plan(), watch)?,
+        2 => push_rejections(alloc, metrics, exchange.plan(), watch)?,
+        3 => push_failures(alloc, metrics, exchange.plan(), watch)?,
+        4 => push_failed_calls(alloc, metrics, exchange.plan(), watch)?,
+        5 => push_losses(rt, alloc, metrics, exchange, &mut desk.pass)?,
+        6 => push_all_totals(alloc, metrics, watch)?,
+        7 => push_drops(alloc, metrics, watch)?,
+        _ => return Ok(false),
+    }
+    Ok(true)
 }
 
-// Returns the answer to `GET /metrics`.
-fn metrics_answer<J: LedgerSet, R: Wait>(
+// Makes the next part of the metrics, or the answer once all are made.
+fn make_part<J: LedgerSet, R: Wait>(
     rt: &R,
     alloc: Global,
     desk: &mut ApiHandler<'_, J>,
-    table: &mut SocketTable,
+    kept: &mut KeptAnswer,
     now: u64,
-) -> Result<Vec<u8>, AllocError> {
-    let mut metrics = Metrics::new(alloc);
-    push_all(rt, alloc, &mut metrics, desk, table, now)?;
-    metrics.into_answer(alloc)
+) -> Result<(), AllocError>
+    ensures once { (KeepsAnswer kept.old kept.new) ⊎ (kept.new.made ≡ Some now) }
+    ensures kept { OnErr result (KeepsAnswer kept.old kept.new) }
+{
+    let part = kept.parts;
+    if push_part(rt, alloc, &mut kept.metrics, desk, part, now)? {
+        kept.count_part();
+        return Ok(());
+    }
+    kept.finish(alloc, now)
+}
+
+/// Makes a part of the next answer to `GET /metrics`, unless the kept one is fresh. So the metrics are made at most once a
+/// second. The last part makes them the kept answer. `now` is in milliseconds since the exchange was opened.
+///
+/// Returns `AllocError` if a request for memory was refused. Then the parts are dropped, and the next call begins anew.
+pub fn make_scrape<J: LedgerSet, R: Wait>(
+    rt: &R,
+    alloc: Global,
+    desk: &mut ApiHandler<'_, J>,
+    kept: &mut KeptAnswer,
+    now: u64,
+) -> Result<(), AllocError>
+    ensures fresh { is_fresh kept.old.made now ≡ true → KeepsAnswer kept.old kept.new }
+    ensures once { (KeepsAnswer kept.old kept.new) ⊎ (kept.new.made ≡ Some now) }
+    ensures err { OnErr result (KeepsAnswer kept.old kept.new) }
+{
+    if kept.is_fresh(now) {
+        return Ok(());
+    }
+    let made = make_part(rt, alloc, desk, kept, now);
+    if made.is_err() {
+        let _dropped = kept.drop_parts(alloc);
+    }
+    made
 }
 
 // Returns an answer that names the refusal.
-fn refusal(alloc: Global, status: StatusCode, why: &str) -> Result<Vec<u8>, AllocError> {
+fn refusal(alloc: Global, status: StatusCode, why: &str) -> Result<Vec<u8>, AllocError>
+    ensures { IfOk result (λ octets. octets.items ≡ refusal_text status why.now) }
+{
     Response::error(alloc, status, why)?.octets(alloc)
 }
 
-/// Answers a request to the metrics' address, which serves `GET /metrics` alone. Returns the octets for the client. A
-/// refusal is an answer too: 404 or 405. `now` is in milliseconds since the exchange was opened.
+/// Answers a request to the metrics' address, which serves `GET /metrics` alone. Returns the octets for the client: the kept
+/// answer while it is fresh. Returns `None` while it isn't: then `make_scrape` has to make the next one. A refusal is an
+/// answer too: 404 or 405. `now` is in milliseconds since the exchange was opened.
 ///
 /// Returns `AllocError` if a request for memory was refused.
-pub fn answer_scrape<J: LedgerSet, R: Wait>(
-    rt: &R,
+pub fn answer_scrape(
     alloc: Global,
-    desk: &mut ApiHandler<'_, J>,
-    table: &mut SocketTable,
+    kept: &KeptAnswer,
     request: &Request<'_>,
     now: u64,
-) -> Result<Vec<u8>, AllocError> {
+) -> Option<Result<Vec<u8>, AllocError>>
+    ensures fresh { scrape_of request.now.method.now request.now.path.now ≡ scrape.Metrics →
+        is_fresh kept.now.made now ≡ true → IsSome result }
+    ensures given { scrape_of request.now.method.now request.now.path.now ≡ scrape.Metrics →
+        IfSome result (λ answer. IfOk answer (λ octets. octets.items ≡ kept.now.octets.items)) }
+    ensures old { scrape_of request.now.method.now request.now.path.now ≡ scrape.Metrics →
+        is_fresh kept.now.made now ≡ false → IsNone result }
+    ensures not_found { scrape_of request.now.method.now request.now.path.now ≡ scrape.NotFound →
+        IsSomeAnd result (λ answer. IfOk answer (λ octets. octets.items ≡ refusal_text status.NotFound (codes "NotFound"))) }
+    ensures not_allowed { scrape_of request.now.method.now request.now.path.now ≡ scrape.NotAllowed →
+        IsSomeAnd result (λ answer. IfOk answer (λ octets. octets.items
+        ≡ refusal_text (status.NotAllowed (record { get = true; post = false; delete = false })) (codes "NotAllowed"))) }
+{
     match scrape_of(request.method, request.path) {
-        Scrape::Metrics => metrics_answer(rt, alloc, desk, table, now),
-        Scrape::NotFound => refusal(alloc, StatusCode::NotFound, "NotFound"),
-        Scrape::NotAllowed => refusal(alloc, StatusCode::NotAllowed(GET), "NotAllowed"),
+        Scrape::Metrics if kept.is_fresh(now) => Some(kept.given(alloc)),
+        Scrape::Metrics => None,
+        Scrape::NotFound => Some(refusal(alloc, StatusCode::NotFound, "NotFound")),
+        Scrape::NotAllowed => Some(refusal(alloc, StatusCode::NotAllowed(GET), "NotAllowed")),
     }
 }

@@ -1,10 +1,10 @@
 //! Log lines about datagrams that the system dropped.
-use crate::lines::{more_than, tell_count};
+use crate::lines::{more_than, tell, tell_count};
 use log::{Level, Log};
-use service_state::DropCount;
+use service_state::{DropCount, NoDrops};
 use std::iter;
 
-// Logs the datagrams that the system dropped at each worker's socket in a round of `seconds` seconds.
+/// Logs the datagrams that the system dropped at each worker's socket in a round of `seconds` seconds.
 pub(crate) fn tell_drops<L: Log>(log: &L, told: &mut [u64], counts: &[DropCount], seconds: u64) {
     for (told, count) in iter::zip(told.iter_mut(), counts) {
         if let Some(drops) = count.drops {
@@ -14,4 +14,17 @@ pub(crate) fn tell_drops<L: Log>(log: &L, told: &mut [u64], counts: &[DropCount]
             tell_count(log, Level::Warn, &what, more, seconds);
         }
     }
+}
+
+/// Warns that the drops aren't known. Logs nothing before they are first counted.
+pub(crate) fn tell_unknown<L: Log>(log: &L, why: NoDrops) {
+    let why = match why {
+        NoDrops::NotCounted => return,
+        NoDrops::NoTable => "/proc/net/udp can't be read: no drops are known",
+        NoDrops::TooManySockets => {
+            "too many UDP sockets: the drops at the workers' sockets aren't known"
+        }
+        NoDrops::NoMemory => "no memory for the drops at sockets",
+    };
+    tell(log, Level::Warn, &why);
 }

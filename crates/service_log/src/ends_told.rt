@@ -1,24 +1,30 @@
 //! Log lines about ended legs.
-ghost use Rattle.std.specs.Prelude.{◌<◌, length};
+ghost use Rattle.std.specs.Prelude.{◌≡◌, ◌++◌, ◌<◌, IfOk, OnOk, length, string_bytes};
+ghost use Rattle.std.specs.List.{flat_map};
+ghost use Rattle.std.specs.Str.Lossy.{utf8_lossy};
+ghost use Rattle.service_log.specs.Shown.{quoted_octet, quoted_text, shown_octets};
 
 use crate::lines::tell;
 use call_records::{CallRow, ending_name};
 use call_signals::ElementText;
 use log::{Level, Log, log_enabled};
 use peer_plan::Plan;
-use plain_text::printable;
+use plain_text::push_printable;
 use service_state::Wanted;
 use std::alloc::{AllocError, Global};
 
-// The number of octets that `LastFour` shows.
+// The most octets that `LastFour` shows.
 const LAST: usize = 4;
+
+// The octet of a quote.
+const QUOTE: u8 = 0x22;
 
 /// How log lines show the numbers of calls.
 #[derive(Clone, Copy, Debug, PartialEq, Eq)]
 pub enum ShownNumbers {
     /// In full.
     Full,
-    /// The last four octets.
+    /// The last four octets, and at most half of the number.
     LastFour,
     /// Not at all.
     No,
@@ -44,22 +50,59 @@ impl CallLines {
     }
 }
 
+// Returns the octets of a number that are shown.
+fn shown_numbers(octets: &[u8], shown: ShownNumbers) -> &[u8]
+    ensures { result.now ≡ shown_octets shown octets.now }
+{
+    match shown {
+        ShownNumbers::Full => octets,
+        ShownNumbers::LastFour => &octets[octets.len() - LAST.min(octets.len() / 2)..],
+        ShownNumbers::No => &[],
+    }
+}
+
+// Adds an octet in quotes: a quote as `\x22`.
+fn push_octet(text: &mut Vec<u8>, octet: u8) -> Result<(), AllocError>
+    ensures { OnOk result (text.new.items ≡ text.old.items ++ quoted_octet octet) }
+{
+    if octet == QUOTE {
+        text.extend_from_slice(b"\\x22")
+    } else {
+        push_printable(text, &[octet])
+    }
+}
+
+// Adds the octets between the quotes.
+fn push_quoted(text: &mut Vec<u8>, octets: &[u8]) -> Result<(), AllocError>
+    ensures { OnOk result (text.new.items ≡ text.old.items ++ flat_map quoted_octet octets.now) }
+{
+    for octet in octets {
+        push_octet(text, *octet)?;
+    }
+    Ok(())
+}
+
+// Returns a text in quotes, in printable characters, so that it ends before the words behind it.
+fn quoted(alloc: Global, octets: &[u8]) -> Result<String, AllocError>
+    ensures { IfOk result (λ text. string_bytes text ≡ utf8_lossy (quoted_text octets.now)) }
+{
+    let mut text = Vec::new(alloc);
+    text.push(QUOTE)?;
+    push_quoted(&mut text, octets)?;
+    text.push(QUOTE)?;
+    String::from_utf8_lossy(alloc, text.as_slice())
+}
+
 // Formats a number as `shown` asks, or `-` if there is none.
 fn number_text(
     alloc: Global,
     number: Option<&ElementText>,
     shown: ShownNumbers,
 ) -> Result<String, AllocError> {
-    let octets = match number {
-        Some(number) => number.as_slice(),
-        None => b"-",
-    };
-    let from = match shown {
-        ShownNumbers::Full => 0,
-        ShownNumbers::LastFour => octets.len().saturating_sub(LAST),
-        ShownNumbers::No => octets.len(),
-    };
-    printable(alloc, octets.get(from..).unwrap_or(b""))
+    match number {
+        Some(number) => quoted(alloc, shown_numbers(number.as_slice(), shown)),
+        None => String::from_str(alloc, "-"),
+    }
 }
 
 // Formats the caller and the called number, or nothing if numbers aren't shown.

@@ -17,3 +17,4 @@ pub use calls_told::tell_end;
 pub use ends_told::{CallLines, ShownNumbers};
 pub use start_told::tell_start;
 pub use telling::LogState;
+pub use trace_told::tell_trace_end;

@@ -18,6 +18,7 @@ fn report_of(rejection: Rejection) -> (Level, &'static str) {
         Rejection::Draining => (Level::Info, "rejected Draining"),
         Rejection::Registration => (Level::Warn, "rejected Registration"),
         Rejection::CallToken => (Level::Info, "call tokens given on request"),
+        Rejection::ManyEntries => (Level::Warn, "trunk frames with too many entries of a call"),
         Rejection::Reflection => (Level::Warn, "challenges of this exchange sent back"),
     }
 }
@@ -79,7 +80,7 @@ impl PeerTold {
         }
     }
 
-    // Notes whether it is there, by when its last datagram came and when a run of POKEs began that it didn't answer.
+    // Notes whether it is there, by when its last sign of life came and when a run of POKEs began that it didn't answer.
     pub(crate) fn note_reach(&mut self, heard: Option<u64>, unanswered_since: Option<u64>) {
         self.reach_now = reach_of(heard, unanswered_since);
     }
@@ -90,7 +91,7 @@ impl PeerTold {
             (Reach::Unreachable(_), Reach::Unreachable(_)) => return,
             (_, Reach::Unreachable(since)) => {
                 let ms = now.saturating_sub(since);
-                let line = format_args!("{name} is unreachable: nothing came for {ms} ms");
+                let line = format_args!("{name} is unreachable: no sign of life for {ms} ms");
                 tell(log, Level::Warn, &line);
             }
             (Reach::Unreachable(since), _) => {

@@ -1,6 +1,6 @@
 //! The log of a running service, and the rounds in which it is written.
 
-use crate::drops_told::tell_drops;
+use crate::drops_told::{tell_drops, tell_unknown};
 use crate::ends_told::{CallLines, ShownNumbers, tell_leg};
 use crate::lines::{more_than, tell, tell_count};
 use crate::news::{silence_limit, tell_news};
@@ -13,7 +13,7 @@ use exchange_core::{Refusal, ServiceStage, Watch};
 use exchange_report::{PeerLosses, refusal_name};
 use log::{Level, Log, log_enabled};
 use peer_plan::{Endpoint, PeerId, Plan};
-use service_state::{NOTED, Rounds, STRANGERS, ServiceWatch, SocketTable, Wanted, drop_counts};
+use service_state::{NOTED, NoDrops, Rounds, STRANGERS, ServiceWatch, Wanted};
 use std::alloc::{AllocError, Global};
 use std::mem;
 use std::sync::Wait;
@@ -35,8 +35,9 @@ pub struct LogState<'s> {
     stage: ServiceStage,
     drains: bool,
     peers: Vec<PeerTold>,
-    // The drops of each worker's socket.
+    // The drops of each worker's socket, and why they aren't known.
     drops: Vec<u64>,
+    unknown: Option<NoDrops>,
     faults: u64,
     calls: WriterTold<Trouble>,
     trace: WriterTold<Fault>,
@@ -83,6 +84,7 @@ impl<'s> LogState<'s> {
             drains: false,
             peers: Vec::new(alloc),
             drops: Vec::new(alloc),
+            unknown: None,
             faults: 0,
             calls: WriterTold::new(),
             trace: WriterTold::new(),
@@ -324,8 +326,19 @@ impl<'s> LogState<'s> {
         self.spare_ends = ended;
     }
 
+    // Logs that the drops at the workers' sockets aren't known, once for each reason in a row.
+    fn tell_unknown<L: Log>(&mut self, log: &L) {
+        let unknown = self.watch.drops().unknown();
+        if unknown != self.unknown {
+            self.unknown = unknown;
+            if let Some(why) = unknown {
+                tell_unknown(log, why);
+            }
+        }
+    }
+
     // Logs the refusals, losses, strangers, faults and drops of a round of `lasted` milliseconds.
-    fn tell_round<L: Log>(&mut self, table: &mut SocketTable, log: &L, alloc: Global, lasted: u64) {
+    fn tell_round<L: Log>(&mut self, log: &L, alloc: Global, lasted: u64) {
         let (watch, seconds) = (self.watch, lasted / 1000);
         self.tell_left(log);
         self.tell_refusals(log, seconds);
@@ -354,24 +367,17 @@ impl<'s> LogState<'s> {
                 seconds,
             );
         }
-        match drop_counts(table, alloc, self.plan) {
+        match watch.drops().counts(alloc) {
             Ok(counts) => tell_drops(log, &mut self.drops, &counts, seconds),
-            Err(_) => tell(log, Level::Debug, &"no memory for the table of sockets"),
+            Err(_) => tell_unknown(log, NoDrops::NoMemory),
         }
     }
 
     /// Logs all that is due at `now`, in milliseconds since the exchange was opened. `see_peer` must have read each peer at
-    /// that moment. Each call logs the stage, the peers, the file of call records, the trace, and the events that the log
-    /// wants one by one. Once a second it logs legs. Every ten seconds it logs refusals, losses, strangers, faults, lost
-    /// rows and drops.
-    pub fn look<L: Log, R: Wait>(
-        &mut self,
-        rt: &R,
-        log: &L,
-        alloc: Global,
-        table: &mut SocketTable,
-        now: u64,
-    ) {
+    /// that moment. Each call logs the stage, the peers, the file of call records, the trace, whether drops are known, and the
+    /// events that the log wants one by one. Once a second it logs legs. Every ten seconds it logs refusals, losses,
+    /// strangers, faults, lost rows and drops.
+    pub fn look<L: Log, R: Wait>(&mut self, rt: &R, log: &L, alloc: Global, now: u64) {
         self.tell_stage(log, self.watch.stage());
         self.tell_drain(log, self.watch.lifecycle().drains());
         self.tell_peers(log);
@@ -379,6 +385,7 @@ impl<'s> LogState<'s> {
         self.tell_each_refusal(rt, log, alloc);
         self.tell_each_end(rt, log, alloc);
         self.tell_files(log);
+        self.tell_unknown(log);
         if self.legs.due(now).is_some() {
             self.tell_legs(log);
         }
@@ -386,7 +393,7 @@ impl<'s> LogState<'s> {
             self.tell_reach(log, now);
         }
         if let Some(lasted) = self.refusals.due(now) {
-            self.tell_round(table, log, alloc, lasted);
+            self.tell_round(log, alloc, lasted);
         }
     }
 

@@ -6,6 +6,18 @@ use call_files::Fault;
 use log::{Level, Log};
 use trace_writer::TraceState;
 
+/// Warns, at the end, of the number of calls of the exchange that couldn't be written to the trace in the folder `path`. Logs
+/// nothing if there are none.
+pub fn tell_trace_end<L: Log>(log: &L, path: &str, state: TraceState) {
+    if state.left > 0 {
+        let left = state.left;
+        let line = format_args!(
+            "calls of the exchange that couldn't be written to the trace in {path}: {left}"
+        );
+        tell(log, Level::Warn, &line);
+    }
+}
+
 impl WriterTold<Fault> {
     /// Logs once that the trace in the folder `path` has ended before the service.
     pub(crate) fn look<L: Log>(&mut self, log: &L, path: &str, state: TraceState) {

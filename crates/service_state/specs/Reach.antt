@@ -3,14 +3,13 @@ use Rattle.std.specs.Prelude.{ℕ, ◌-◌, nat_lt, List, codes, Option, Some, N
 use Rattle.service_state.specs.declared.reach.Reach.{Reach}
 use Rattle.service_state.specs.declared.reach.Reach.TheVariants as reach
 
--- By when its last datagram came, and when the last run of POKEs without an answer began: any datagram after that is a sign of
--- life.
--- An unreachable peer is so since its last datagram, or since the moment 0.
+-- By when its last sign of life came, and when the last run of POKEs without an answer began: one after that shows that the
+-- peer is there. An unreachable peer is so since its last sign of life, or since the moment 0.
 abbrev pub reach_of : Option ℕ → Option ℕ → Reach
 reach_of None None = reach.Unknown
-reach_of (Some received) None = reach.Up
+reach_of (Some heard) None = reach.Up
 reach_of None (Some since) = reach.Unreachable 0
-reach_of (Some received) (Some since) = if nat_lt since received then reach.Up else reach.Unreachable received
+reach_of (Some heard) (Some since) = if nat_lt since heard then reach.Up else reach.Unreachable heard
 
 -- milliseconds since it is unreachable
 abbrev pub unreachable_ms : Reach → ℕ → Option ℕ

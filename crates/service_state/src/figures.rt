@@ -16,7 +16,7 @@ pub struct PeerFigures<'a> {
     pub numbers: u16,
     /// The number of its ended legs.
     pub legs_ended: u64,
-    /// Milliseconds since its last datagram; none if it never sent one.
+    /// Milliseconds since its last sign of life; none if it never gave one.
     pub silent_ms: Option<u64>,
     /// Whether it is there.
     pub reach: Reach,
@@ -108,17 +108,17 @@ impl Figure {
             Figure::Silence => (
                 Kind::Gauge,
                 "iax_peer_silence_seconds",
-                "Seconds since the last datagram of the peer.",
+                "Seconds since the last sign of life of the peer.",
             ),
             Figure::Up => (
                 Kind::Gauge,
                 "iax_peer_up",
-                "Whether the peer is there: 0 if it answers no POKE and sends nothing.",
+                "Whether the peer is there: 0 if it answers no POKE and gives no other sign of life.",
             ),
             Figure::Unreachable => (
                 Kind::Gauge,
                 "iax_peer_unreachable_seconds",
-                "Seconds since the last datagram of a peer that is unreachable.",
+                "Seconds since the last sign of life of a peer that is unreachable.",
             ),
             Figure::RoundTrip => (
                 Kind::Gauge,

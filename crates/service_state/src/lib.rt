@@ -3,6 +3,7 @@
 #![tactic(auto)]
 
 mod authentication;
+mod counting;
 mod drops;
 mod figures;
 mod laws;
@@ -17,11 +18,13 @@ mod reach;
 mod reasons;
 mod scrape;
 mod service_watch;
+mod socket_drops;
 mod socket_table;
 mod spelling;
 mod waker_table;
 
 pub use authentication::{AUTH_FAILURES, AuthFailure};
+pub use counting::count_drops_beside;
 pub use drops::drops_of;
 pub use figures::{Figure, PeerFigures};
 pub use laws::label_values_are_read_back;
@@ -34,4 +37,5 @@ pub use reach::{Reach, reach_of};
 pub use reasons::REASONS;
 pub use scrape::{Scrape, scrape_of};
 pub use service_watch::{NOTED, STRANGERS, ServiceWatch, Wanted};
-pub use socket_table::{DropCount, SocketTable, drop_counts};
+pub use socket_drops::{DropCount, NoDrops, SocketDrops};
+pub use socket_table::SocketTable;

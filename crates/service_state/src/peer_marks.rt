@@ -7,7 +7,7 @@ use std::iter;
 use std::sync::atomic::{AtomicU64, Ordering};
 
 /// The reasons for which a peer's datagram is refused: all but `Stranger`.
-pub const REFUSALS: [Refusal; 15] = [
+pub const REFUSALS: [Refusal; 18] = [
     Refusal::StepsSpent,
     Refusal::TooLong,
     Refusal::Short,
@@ -18,19 +18,23 @@ pub const REFUSALS: [Refusal; 15] = [
     Refusal::NoToken,
     Refusal::NoCall,
     Refusal::RecordFull,
+    Refusal::Unaddressed,
+    Refusal::NewUnacknowledged,
     Refusal::SerialsSpent,
     Refusal::NoNumber,
     Refusal::NumberBusy,
+    Refusal::Draining,
     Refusal::RemoteBusy,
     Refusal::Memory,
 ];
 
 /// The rejections that steps report of a peer's datagrams.
-pub const REJECTIONS: [Rejection; 5] = [
+pub const REJECTIONS: [Rejection; 6] = [
     Rejection::NoNumber,
     Rejection::Draining,
     Rejection::Registration,
     Rejection::CallToken,
+    Rejection::ManyEntries,
     Rejection::Reflection,
 ];
 
@@ -44,7 +48,7 @@ struct RefusalCount {
 // The counters of a peer since the service began, modulo 2^64.
 #[derive(Drop)]
 pub(crate) struct PeerMarks {
-    // The moment of its last datagram plus 1, in milliseconds; 0 if there was none.
+    // The moment of its last sign of life plus 1, in milliseconds; 0 if there was none.
     pub(crate) heard: AtomicU64,
     pub(crate) received: AtomicU64,
     pub(crate) refused: AtomicU64,
@@ -55,6 +59,7 @@ pub(crate) struct PeerMarks {
     while_draining: AtomicU64,
     registrations: AtomicU64,
     without_token: AtomicU64,
+    many_entries: AtomicU64,
     reflections: AtomicU64,
     wrong_answers: AtomicU64,
     without_answer: AtomicU64,
@@ -67,7 +72,7 @@ pub(crate) struct PeerMarks {
 /// The counters of a peer since the service began, modulo 2^64: its datagrams, and its ended legs.
 #[derive(Clone, Copy, Default)]
 pub struct PeerMarksRead {
-    /// The moment of its last datagram, in milliseconds since the exchange was opened.
+    /// The moment of its last sign of life, in milliseconds since the exchange was opened.
     pub heard: Option<u64>,
     pub received: u64,
     /// The number of these that were turned away.
@@ -114,6 +119,7 @@ impl PeerMarks {
             while_draining: AtomicU64::new(0),
             registrations: AtomicU64::new(0),
             without_token: AtomicU64::new(0),
+            many_entries: AtomicU64::new(0),
             reflections: AtomicU64::new(0),
             wrong_answers: AtomicU64::new(0),
             without_answer: AtomicU64::new(0),
@@ -141,6 +147,7 @@ impl PeerMarks {
             Rejection::Draining => &self.while_draining,
             Rejection::Registration => &self.registrations,
             Rejection::CallToken => &self.without_token,
+            Rejection::ManyEntries => &self.many_entries,
             Rejection::Reflection => &self.reflections,
         }
     }

@@ -1,32 +1,32 @@
-//! Whether a peer is there, by its datagrams and the POKEs that it got.
+//! Whether a peer is there, by its signs of life and the POKEs that it got.
 ghost use Rattle.std.specs.Prelude.{◌≡◌};
 ghost use Rattle.service_state.specs.Reach as reach;
 
 /// Whether a peer is there.
 #[derive(Clone, Copy, Debug, PartialEq, Eq)]
 pub enum Reach {
-    /// Nothing came from it, and no run of POKEs ended without an answer.
+    /// It gave no sign of life, and no run of POKEs ended without an answer.
     Unknown,
-    /// Something came from it, and it isn't unreachable.
+    /// It gave a sign of life, and it isn't unreachable.
     Up,
-    /// Nothing came from it during a run of POKEs. It has the moment of the last datagram, in milliseconds; 0 if there was none.
+    /// It gave no sign of life during a run of POKEs. It has the moment of the last one, in milliseconds; 0 if there was none.
     Unreachable(u64),
 }
 
-/// Returns whether a peer is there. `received` is the moment of its last datagram, in milliseconds; `None` before the first.
+/// Returns whether a peer is there. `heard` is the moment of its last sign of life, in milliseconds; `None` before the first.
 /// `unanswered_since` is the moment of the first POKE of the last run without an answer; `None` if there was none.
-pub fn reach_of(received: Option<u64>, unanswered_since: Option<u64>) -> Reach
-    ensures { result ≡ reach.reach_of received unanswered_since }
+pub fn reach_of(heard: Option<u64>, unanswered_since: Option<u64>) -> Reach
+    ensures { result ≡ reach.reach_of heard unanswered_since }
 {
-    match (received, unanswered_since) {
+    match (heard, unanswered_since) {
         (None, None) => Reach::Unknown,
         (Some(_), None) => Reach::Up,
         (None, Some(_)) => Reach::Unreachable(0),
-        (Some(received), Some(since)) => {
-            if since < received {
+        (Some(heard), Some(since)) => {
+            if since < heard {
                 Reach::Up
             } else {
-                Reach::Unreachable(received)
+                Reach::Unreachable(heard)
             }
         }
     }

@@ -5,6 +5,7 @@ use crate::authentication::AuthFailure;
 use crate::lifecycle::Lifecycle;
 use crate::noted::Noted;
 use crate::peer_marks::{PeerMarks, PeerMarksRead, count_one};
+use crate::socket_drops::SocketDrops;
 use crate::waker_table::WakerTable;
 use call_files::CallOutlets;
 use call_records::{CallRow, reason_name};
@@ -39,6 +40,7 @@ pub struct ServiceWatch {
     peers: Vec<PeerMarks>,
     strangers: AtomicU64,
     faults: AtomicU64,
+    drops: SocketDrops,
     // The endpoints of strangers that the log hasn't taken yet.
     seen: Mutex<Vec<Endpoint>>,
     // The refusals and the ended legs that the log hasn't taken yet, if it wants them.
@@ -60,6 +62,7 @@ impl Drop for ServiceWatch {
             peers: _,
             strangers: _,
             faults: _,
+            drops: _,
             seen: _,
             wanted: _,
             refusals: _,
@@ -113,11 +116,13 @@ impl ServiceWatch {
     ) -> Result<ServiceWatch, AllocError> {
         let (refusals, ends) = noted_of(alloc, wanted)?;
         let (peers, seen, wakers) = room_of(alloc, plan)?;
+        let drops = SocketDrops::new(alloc, plan.workers().len())?;
         Ok(ServiceWatch {
             lifecycle: Lifecycle::new(),
             peers,
             strangers: AtomicU64::new(0),
             faults: AtomicU64::new(0),
+            drops,
             seen: Mutex::new(seen),
             wanted,
             refusals,
@@ -198,6 +203,11 @@ impl ServiceWatch {
         self.faults.load(Ordering::Relaxed)
     }
 
+    /// Returns the datagrams that the system dropped at the workers' sockets.
+    pub fn drops(&self) -> &SocketDrops {
+        &self.drops
+    }
+
     /// Takes the endpoints of new strangers, at most as many as the list had room for. The list `spare` replaces theirs,
     /// with its content.
     pub fn take_strangers<R: Wait>(&self, rt: &R, spare: Vec<Endpoint>) -> Vec<Endpoint> {
@@ -252,10 +262,12 @@ impl ServiceWatch {
         &self.lifecycle
     }
 
-    // Counts a datagram received from a peer.
-    fn hear(&self, peer: PeerId, now: u64) {
+    // Counts a datagram received from a peer. Only a sign of life sets the moment of the last one.
+    fn hear(&self, peer: PeerId, now: u64, is_alive: bool) {
         if let Some(marks) = self.peers.get(peer.index()) {
-            marks.heard.store(now.saturating_add(1), Ordering::Relaxed);
+            if is_alive {
+                marks.heard.store(now.saturating_add(1), Ordering::Relaxed);
+            }
             count_one(&marks.received);
         }
     }
@@ -337,7 +349,11 @@ impl Watch for ServiceWatch {
 
     fn tell(&self, event: Event) {
         match event {
-            Event::Received { peer, now } => self.hear(peer, now),
+            Event::Received {
+                peer,
+                now,
+                is_alive,
+            } => self.hear(peer, now, is_alive),
             Event::Refused { peer, refusal } => self.refuse(peer, refusal),
             Event::Rejected { peer, rejection } => self.reject(peer, rejection),
             Event::TurnedAway { peer } => self.turn_away(peer),

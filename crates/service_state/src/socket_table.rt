@@ -1,53 +1,81 @@
-//! The datagrams that the system dropped at the workers' sockets, from its table of UDP sockets. A worker's endpoint has
-//! the worker's own socket and those connected to its peers. Workers of one endpoint share one count.
-ghost use Rattle.std.specs.Prelude.{◌≡◌, ◌⊎◌, IfOk, length, vec_len};
-
-use crate::drops_of;
-use peer_plan::{Endpoint, Plan};
+//! The system's table of UDP sockets. A worker's endpoint has the worker's own socket and those connected to its peers.
+//! Workers of one endpoint share one count.
+use crate::drops::drops_of;
+use crate::socket_drops::{NoDrops, SocketDrops};
+use peer_plan::Endpoint;
 use std::alloc::{AllocError, Global};
 use std::fs::{File, Files};
-use std::io;
-use std::io::{Read, Seek, SeekFrom};
+use std::io::{ErrorKind, Read, Seek, SeekFrom};
 
-/// The datagrams dropped at a worker's sockets.
-#[derive(Drop)]
-pub struct DropCount {
-    /// The place of the worker, in digits.
-    pub worker: String,
-    /// None if the table has none of its sockets.
-    pub drops: Option<u64>,
-}
+// The most octets of the table that are read: some 8,000 sockets.
+const LIMIT: usize = 1_048_576;
 
-/// The system's table of UDP sockets, which each query reads again from its start.
+// The number of octets read at once.
+const PIECE: usize = 4096;
+
+// The most reads of a table. The system gives whole lines of 128 octets.
+const PIECES: usize = LIMIT / 128;
+
+/// The system's table of UDP sockets, which each count reads again from its start.
 #[derive(Drop)]
 pub struct SocketTable {
-    // None if the system has no table.
-    file: Option<File>,
+    file: File,
 }
 
 impl SocketTable {
-    /// Opens `/proc/net/udp`. If that fails, no drops are known.
-    pub fn open<R: Files<File = File>>(rt: &R) -> SocketTable {
-        SocketTable {
-            file: File::open(rt, "/proc/net/udp").ok(),
-        }
-    }
-
-    // Returns the current text of the table, or `None` if it can't be read or there is no memory.
-    fn text(&mut self, alloc: Global) -> Option<String> {
-        let file = self.file.as_mut()?;
-        let mut text = String::new(alloc);
-        match read_anew(file, &mut text) {
-            Ok(_) => Some(text),
+    /// Opens `/proc/net/udp`. Returns `None` if that fails.
+    pub fn open<R: Files<File = File>>(rt: &R) -> Option<SocketTable> {
+        match File::open(rt, "/proc/net/udp") {
+            Ok(file) => Some(SocketTable { file }),
             Err(_) => None,
         }
     }
-}
 
-// Reads a file from its start.
-fn read_anew(file: &mut File, text: &mut String) -> io::Result<usize> {
-    file.seek(SeekFrom::Start(0))?;
-    file.read_to_string(text)
+    // Reads a piece behind the others. Returns whether there may be more.
+    fn read_piece(&mut self, text: &mut Vec<u8>) -> Result<bool, NoDrops> {
+        let mut piece = [0u8; PIECE];
+        match self.file.read(&mut piece) {
+            Ok(0) => Ok(false),
+            Ok(count) if text.len().saturating_add(count) > LIMIT => Err(NoDrops::TooManySockets),
+            Ok(count) => match text.extend_from_slice(&piece[..count]) {
+                Ok(()) => Ok(true),
+                Err(_) => Err(NoDrops::NoMemory),
+            },
+            Err(error) if error.kind() == ErrorKind::Interrupted => Ok(true),
+            Err(_) => Err(NoDrops::NoTable),
+        }
+    }
+
+    // Returns the current text of the table.
+    fn text(&mut self, alloc: Global) -> Result<Vec<u8>, NoDrops> {
+        let mut text = Vec::new(alloc);
+        if self.file.seek(SeekFrom::Start(0)).is_err() {
+            return Err(NoDrops::NoTable);
+        }
+        for _ in 0..PIECES {
+            if !self.read_piece(&mut text)? {
+                return Ok(text);
+            }
+        }
+        Err(NoDrops::TooManySockets)
+    }
+
+    // Counts the drops at the sockets of each of these workers, unless that is to end. Returns the reason if they aren't
+    // known now.
+    pub(crate) fn count(
+        &mut self,
+        alloc: Global,
+        drops: &SocketDrops,
+        workers: &[Endpoint],
+    ) -> Option<NoDrops> {
+        match self.text(alloc) {
+            Ok(text) => match str::from_utf8(&text) {
+                Ok(table) => count_in(table, alloc, drops, workers),
+                Err(_) => Some(NoDrops::NoTable),
+            },
+            Err(why) => Some(why),
+        }
+    }
 }
 
 // Formats an endpoint as the table does: the address as a number in the machine's octet order, with the last octet first.
@@ -57,34 +85,21 @@ fn local_text(alloc: Global, endpoint: Endpoint) -> Result<String, AllocError> {
     format!(in alloc; "{d:02X}{c:02X}{b:02X}{a:02X}:{port:04X}")
 }
 
-// Returns the drops at the sockets of each of these workers, by the text of the table.
-fn counts_in(table: &str, alloc: Global, workers: &[Endpoint]) -> Result<Vec<DropCount>, AllocError>
-    ensures { IfOk result (λ counts. vec_len counts ≡ length workers.now) }
-{
-    let mut counts = Vec::new(alloc);
-    for place in 0..workers.len() {
-        let local = local_text(alloc, workers[place])?;
-        let worker = format!(in alloc; "{place}")?;
-        let drops = drops_of(table, &local);
-        if counts.push(DropCount { worker, drops }).is_err() {
-            return Err(AllocError);
+// Counts the drops at the sockets of each of these workers by the text of the table.
+fn count_in(
+    table: &str,
+    alloc: Global,
+    drops: &SocketDrops,
+    workers: &[Endpoint],
+) -> Option<NoDrops> {
+    for (place, worker) in workers.iter().enumerate() {
+        if drops.is_over() {
+            break;
+        }
+        match local_text(alloc, *worker) {
+            Ok(local) => drops.note(place, drops_of(table, &local)),
+            Err(_) => return Some(NoDrops::NoMemory),
         }
     }
-    Ok(counts)
-}
-
-/// Returns the drops at each worker's sockets, in order, or an empty list if there is no table.
-///
-/// `AllocError`: a request for memory was refused.
-pub fn drop_counts(
-    table: &mut SocketTable,
-    alloc: Global,
-    plan: &Plan,
-) -> Result<Vec<DropCount>, AllocError>
-    ensures { IfOk result (λ counts. (vec_len counts ≡ 0) ⊎ (vec_len counts ≡ length plan.now.workers)) }
-{
-    match table.text(alloc) {
-        Some(table) => counts_in(&table, alloc, plan.workers()),
-        None => Ok(Vec::new(alloc)),
-    }
+    None
 }

@@ -1,5 +1,5 @@
 -- The load that the steps of a trail put at a peer, one step after another.
-use Rattle.std.proofs.Common.{◌≡◌, ◌≢◌, ℕ, ◌+◌, ◌==◌, arith, true, List, [], ◌∷◌, Option, None, Some, length, slice_get, refl}
+use Rattle.std.proofs.Common.{◌≡◌, ◌≢◌, ℕ, ◌+◌, ◌==◌, arith, Bool, true, List, [], ◌∷◌, Option, None, Some, length, slice_get, refl}
 use Rattle.std.proofs.Common.{sym, ap, subst, ◌∙◌, inl, inr}
 use Rattle.std.specs.Prelude.{Ok, Err}
 use Rattle.std.proofs.lemmas.Bool.{cases_Bool, eqb-true, eq-eqb}
@@ -56,6 +56,18 @@ module _ (datagrams : (first : ℕ) (peer : PeerView) (datagram : Datagram) (now
         queued = λ room. refl;
       })
 
+  draining_puts : (drains : Bool) (old new : PeerView) → new ≡ record old { drains = drains } → Puts no_load old new
+  draining_puts drains old new same =
+      let before = none old in
+      subst (λ (p : PeerView). Puts no_load old p) (sym same) (record {
+        rules = before.rules;
+        most = before.most;
+        sent = before.sent;
+        entries = before.entries;
+        octets = before.octets;
+        queued = before.queued;
+      })
+
   obeys_puts : (name : LegName) (kind : Kind) (media : List ℕ) (now : ℕ) (old new : PeerView)
       → Obeys name kind media now old new
       → Puts (order_load kind (length media)) old new
@@ -87,15 +99,23 @@ module _ (datagrams : (first : ℕ) (peer : PeerView) (datagram : Datagram) (now
   step_puts (mades.Tick peer now (Ok report)) old new leads = ticks_put old now report new leads
   step_puts (mades.Tick peer now (Err spent)) old new leads = unchanged old new leads
   step_puts (mades.Retire peer name (Some leg)) old new leads =
-      subst (λ (p : PeerView). Puts no_load old p) (sym leads) (retiring old name)
+      subst (λ (p : PeerView). Puts no_load old p) (sym leads.becomes) (retiring old name)
   step_puts (mades.Retire peer name None) old new leads = unchanged old new leads
   step_puts (mades.TakeOut peer (Some out)) old new leads = taken_puts out old new leads.oldest
   step_puts (mades.TakeOut peer None) old new leads = unchanged old new leads.empty.1
-  step_puts (mades.Look peer number answer) old new leads = unchanged old new leads
+  step_puts (mades.SetDraining peer drains) old new leads = draining_puts drains old new leads
+  step_puts (mades.Look peer number answer) old new leads = unchanged old new leads.stays
+  step_puts (mades.Describe peer number answer) old new leads = unchanged old new leads.stays
+  step_puts (mades.DescribeFrom peer number answer) old new leads = unchanged old new leads.stays
+  step_puts (mades.CountLegs peer count) old new leads = unchanged old new leads.stays
+  step_puts (mades.ShowSums peer sums) old new leads = unchanged old new leads.stays
+  step_puts (mades.ShowLost peer lost) old new leads = unchanged old new leads.stays
+  step_puts (mades.ShowPokes peer pokes) old new leads = unchanged old new leads.stays
   step_puts (mades.Reserve peer answer) old new leads = unchanged old new leads
   step_puts (mades.Bridge one other answer) old new leads = unchanged old new leads
   step_puts (mades.Partner name answer) old new leads = unchanged old new leads
   step_puts (mades.Release name answer) old new leads = unchanged old new leads
+  step_puts (mades.NextSerial serial) old new leads = unchanged old new leads
   step_puts mades.Unasked old new leads = unchanged old new leads
 
   next_at : (other : ℕ) (made : Made) (old new : List PeerView) (leads : LeadsAt other made old new) (place : ℕ)

@@ -1,12 +1,12 @@
 -- The promise of a call of a peer gives the effect of its note.
-use Rattle.std.proofs.Common.{◌≡◌, ℕ, ◌==◌, Bool, true, false, List, Option, None, Some, if◌then◌else◌, refl}
+use Rattle.std.proofs.Common.{◌≡◌, ℕ, ◌==◌, Bool, true, false, List, Option, None, Some, if◌then◌else◌, ap, refl}
 use Rattle.std.specs.Prelude.{Result, Ok, Err}
 use Rattle.call_book.specs.declared.leg_name.LegName.{LegName}
 use Rattle.call_signals.specs.Order.{kind_of, media_of, Order}
 use Rattle.call_signals.specs.declared.format.Format.{Format}
 use Rattle.iax_frames.specs.FullFrame.{FullFrame}
 use Rattle.leg_machine.specs.OrderTable.{IsShortMedia}
-use Rattle.step_log.specs.Followed.{Leads}
+use Rattle.step_log.specs.Followed.{GivesUp, Leads}
 use Rattle.step_log.specs.Notes.{given_up, without_lease}
 use Rattle.step_log.specs.declared.made.Made.TheVariants as mades
 use Rattle.peer_lock.specs.Accounts.{Credit}
@@ -16,7 +16,7 @@ use Rattle.peer_lock.specs.Makes.{WasHandled}
 use Rattle.peer_lock.specs.Openings.{WasOpenedIn, WasOpenedOut, WasRejected}
 use Rattle.peer_lock.specs.Orders.{WasOrdered, refused_at}
 use Rattle.peer_lock.specs.Peer.{PeerView, WasTakenInto, WasTakenOut}
-use Rattle.peer_lock.specs.Statuses.{WasRetired}
+use Rattle.peer_lock.specs.Statuses.{WasLookedAt, WasRetired, is_done}
 use Rattle.peer_lock.specs.Ticks.{WasTicked}
 use Rattle.peer_lock.specs.declared.errors.OpenError.{OpenError}
 use Rattle.peer_lock.specs.declared.errors.OrderError.{OrderError}
@@ -25,6 +25,7 @@ use Rattle.peer_lock.specs.declared.errors.PeerError.{PeerError}
 use Rattle.peer_lock.specs.declared.errors.RejectError.{RejectError}
 use Rattle.peer_lock.specs.declared.errors.StepsSpent.{StepsSpent}
 use Rattle.peer_lock.specs.declared.steps.EndedLeg.{EndedLeg}
+use Rattle.peer_lock.specs.declared.steps.Status.{Status}
 use Rattle.peer_lock.specs.declared.steps.Step.{Step}
 use Rattle.peer_lock.specs.declared.steps.TickReport.{TickReport}
 
@@ -96,8 +97,30 @@ tick_leads first_steps number now (Err spent) old new before after was = was.err
 
 pub retiring_leads : (number : ℕ) (name : LegName) (result : Option (LegName × EndedLeg)) (old new : PeerView)
     → WasRetired name result old new → Leads (mades.Retire number name (given_up result)) old new
-retiring_leads number name (Some retired) old new was = was.gone
+retiring_leads number name (Some retired) old new was =
+    given (leg_named old.legs name) refl
+  where
+    -- it wasn't kept, so it was done
+    done : (b : Bool) → is_done (leg_named old.legs name) ≡ b → b ≡ true
+    done true is = refl
+    done false is = let kept = was.none.1 is in absurd (cc)
+
+    given : (at : Option NamedLeg) → leg_named old.legs name ≡ at → GivesUp name retired.1 old new
+    given None at = let kept = was.none.1 (ap is_done at) in absurd (cc)
+    given (Some leg) at = record {
+      leg = leg;
+      named = at;
+      done = done (is_done (Some leg)) (ap is_done at);
+      facts = was.facts leg at;
+      entries = (was.«record» leg at).0;
+      ruled = was.ruled;
+      becomes = was.gone;
+    }
 retiring_leads number name None old new was = was.same
+
+pub looking_leads : (number leg : ℕ) (result : Option Status) (peer : PeerView) → WasLookedAt leg result peer
+    → Leads (mades.Look number leg result) peer peer
+looking_leads number leg result peer was = record { answers = was.status; stays = refl }
 
 pub taking_leads : (number : ℕ) (result : Bool) (out_old out_new : List ℕ) (old new : PeerView)
     → WasTakenInto result out_old out_new old new

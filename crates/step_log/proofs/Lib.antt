@@ -1,3 +1,4 @@
+pub mod Booking
 pub mod Counted
 pub mod Fitting
 pub mod Leading

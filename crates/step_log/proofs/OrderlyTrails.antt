@@ -1,5 +1,5 @@
 -- What the steps of a trail carry on at the peer of a place.
-use Rattle.std.proofs.Common.{◌≡◌, ◌≢◌, ℕ, ◌==◌, true, cond, List, [], ◌∷◌, Option, None, Some, slice_get}
+use Rattle.std.proofs.Common.{◌≡◌, ◌≢◌, ℕ, ◌==◌, Bool, true, cond, List, [], ◌∷◌, Option, None, Some, slice_get}
 use Rattle.std.proofs.Common.{refl, sym, ap, subst, ◌∙◌, inl, inr}
 use Rattle.std.specs.Prelude.{Ok, Err}
 use Rattle.std.proofs.lemmas.Bool.{cases_Bool, eqb-true, eq-eqb}
@@ -62,6 +62,30 @@ module _ (datagrams : (first : ℕ) (peer : PeerView) (datagram : Datagram) (now
   unchanged : (old new : PeerView) → new ≡ old → Goes [] [] old new
   unchanged old new same = subst (λ (p : PeerView). Goes [] [] old p) (sym same) (stays old)
 
+  draining_goes : (drains : Bool) (old new : PeerView) → new ≡ record old { drains = drains } → Goes [] [] old new
+  draining_goes drains old new same =
+      let before = none old in
+      subst (λ (p : PeerView). Goes [] [] old p) (sym same) (record {
+        carried = nothing;
+        taken_are = refl;
+        ways = [];
+        whole = refl;
+        kept = refl;
+        queued = refl;
+        put = refl;
+        dropped = refl;
+        order = record {
+          rules = before.rules;
+          queue = before.queue;
+          outbox = before.outbox;
+          lost = before.lost;
+          dropped = before.dropped;
+          outgoing = before.outgoing;
+          in_turn = before.in_turn;
+          ahead = before.ahead;
+        };
+      })
+
   becomes : (old mid new : PeerView) → new ≡ mid → CarriesOn old mid → Goes [] [] old new
   becomes old mid new same carries = subst (λ (p : PeerView). Goes [] [] old p) (sym same) (no_media old mid carries)
 
@@ -95,15 +119,23 @@ module _ (datagrams : (first : ℕ) (peer : PeerView) (datagram : Datagram) (now
   step_goes (mades.Order peer name kind media now (Err error)) old new sound leads = unchanged old new leads
   step_goes (mades.Tick peer now (Ok report)) old new sound leads = no_media old new (ticks old now report new leads)
   step_goes (mades.Tick peer now (Err spent)) old new sound leads = unchanged old new leads
-  step_goes (mades.Retire peer name (Some leg)) old new sound leads = becomes old _ new leads (retiring old name)
+  step_goes (mades.Retire peer name (Some leg)) old new sound leads = becomes old _ new leads.becomes (retiring old name)
   step_goes (mades.Retire peer name None) old new sound leads = unchanged old new leads
   step_goes (mades.TakeOut peer (Some out)) old new sound leads = one_taken out old new leads.oldest
   step_goes (mades.TakeOut peer None) old new sound leads = unchanged old new leads.empty.1
-  step_goes (mades.Look peer number answer) old new sound leads = unchanged old new leads
+  step_goes (mades.SetDraining peer drains) old new sound leads = draining_goes drains old new leads
+  step_goes (mades.Look peer number answer) old new sound leads = unchanged old new leads.stays
+  step_goes (mades.Describe peer number answer) old new sound leads = unchanged old new leads.stays
+  step_goes (mades.DescribeFrom peer number answer) old new sound leads = unchanged old new leads.stays
+  step_goes (mades.CountLegs peer count) old new sound leads = unchanged old new leads.stays
+  step_goes (mades.ShowSums peer sums) old new sound leads = unchanged old new leads.stays
+  step_goes (mades.ShowLost peer lost) old new sound leads = unchanged old new leads.stays
+  step_goes (mades.ShowPokes peer pokes) old new sound leads = unchanged old new leads.stays
   step_goes (mades.Reserve peer answer) old new sound leads = unchanged old new leads
   step_goes (mades.Bridge one other answer) old new sound leads = unchanged old new leads
   step_goes (mades.Partner name answer) old new sound leads = unchanged old new leads
   step_goes (mades.Release name answer) old new sound leads = unchanged old new leads
+  step_goes (mades.NextSerial serial) old new sound leads = unchanged old new leads
   step_goes mades.Unasked old new sound leads = unchanged old new leads
 
   -- ---- at a place

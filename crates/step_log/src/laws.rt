@@ -1,23 +1,30 @@
 //! Laws of every trail that peers follow.
-ghost use Rattle.std.specs.Prelude.{◌≡◌, ◌+◌, ◌≤◌, ℕ, List, Option, None, Result, Some, Bool, if◌then◌else◌, slice_get};
+ghost use Rattle.std.specs.Prelude.{◌≡◌, ◌+◌, ◌≤◌, ◌↔◌, ℕ, List, Option, None, Result, Some, Bool, false, if◌then◌else◌};
+ghost use Rattle.std.specs.Prelude.{slice_get, IfOk, IsErr, OnErr, OnOk, count_by, is_some, option_map};
+ghost use Rattle.call_book.specs.Book.{Book, after_reserve, bridge_answer, bridged, has_name, partner_of, released};
+ghost use Rattle.call_book.specs.Book.{reserve_answer};
+ghost use Rattle.call_book.specs.declared.errors.BridgeError.{BridgeError};
+ghost use Rattle.call_book.specs.declared.errors.Stale.{Stale};
 ghost use Rattle.call_book.specs.declared.leg_name.LegName.{LegName};
 ghost use Rattle.call_signals.specs.Order.{kind_of, media_of, Order};
 ghost use Rattle.call_signals.specs.declared.format.Format.{Format};
 ghost use Rattle.iax_frames.specs.FullFrame.{FullFrame};
 ghost use Rattle.leg_machine.specs.OrderTable.{IsShortMedia};
-ghost use Rattle.step_log.specs.Followed.{AreSound, Follow, Leads, loads_at};
+ghost use Rattle.step_log.specs.Followed.{AreSound, Follow, Leads, LeadsBook, loads_at};
 ghost use Rattle.step_log.specs.Notes.{given_up, without_lease};
 ghost use Rattle.step_log.specs.Trails.{CarriesTrail};
 ghost use Rattle.step_log.specs.declared.made.Made.{Made};
 ghost use Rattle.step_log.specs.declared.made.Made.TheVariants as mades;
-ghost use Rattle.peer_lock.specs.Accounts.{Credit};
+ghost use Rattle.peer_lock.specs.Accounts.{Credit, shown};
+ghost use Rattle.peer_lock.specs.Descriptions.{description_from, description_of};
 ghost use Rattle.peer_lock.specs.HandedUp.{HandedUp};
+ghost use Rattle.peer_lock.specs.Legs.{leg_at};
 ghost use Rattle.peer_lock.specs.Loads.{Puts, QueueHasRoom, dropped_for_room};
 ghost use Rattle.peer_lock.specs.Makes.{WasHandled};
 ghost use Rattle.peer_lock.specs.Openings.{WasOpenedIn, WasOpenedOut, WasRejected};
 ghost use Rattle.peer_lock.specs.Orders.{WasOrdered};
 ghost use Rattle.peer_lock.specs.Peer.{PeerView, WasTakenInto, WasTakenOut, to_send};
-ghost use Rattle.peer_lock.specs.Statuses.{WasRetired};
+ghost use Rattle.peer_lock.specs.Statuses.{WasLookedAt, WasRetired};
 ghost use Rattle.peer_lock.specs.Ticks.{WasTicked};
 ghost use Rattle.peer_lock.specs.declared.errors.OpenError.{OpenError};
 ghost use Rattle.peer_lock.specs.declared.errors.OrderError.{OrderError};
@@ -25,11 +32,12 @@ ghost use Rattle.peer_lock.specs.declared.errors.PeerError.{PeerError};
 ghost use Rattle.peer_lock.specs.declared.errors.RejectError.{RejectError};
 ghost use Rattle.peer_lock.specs.declared.errors.StepsSpent.{StepsSpent};
 ghost use Rattle.peer_lock.specs.declared.steps.EndedLeg.{EndedLeg};
+ghost use Rattle.peer_lock.specs.declared.steps.Status.{Status};
 ghost use Rattle.peer_lock.specs.declared.steps.Step.{Step};
 ghost use Rattle.peer_lock.specs.declared.steps.TickReport.{TickReport};
 
-/// A call of `NotedPeer` changes its peer as its note says, whether it makes a step or is refused. So the laws of trails hold
-/// for what these calls promise.
+/// A call of `NotedPeer` changes its peer as its note says, whether it makes a step, is refused, or asks, and a query has the
+/// noted answer. So the laws of trails hold for what these calls promise.
 pub fn calls_lead_as_noted()
     ensures datagram_read { (first_octets first_steps number now room : ℕ) (octets : List ℕ) (result : Result Step PeerError)
         (onwards : HandedUp) (old new : PeerView) (before after : Credit) →
@@ -60,6 +68,34 @@ pub fn calls_lead_as_noted()
     ensures take_into { (number : ℕ) (result : Bool) (out_old out_new : List ℕ) (old new : PeerView) →
         WasTakenInto result out_old out_new old new →
         Leads (mades.TakeOut number (if result then Some out_new else None)) old new }
+    ensures set_draining { (number : ℕ) (drains : Bool) (old : PeerView) →
+        Leads (mades.SetDraining number drains) old (record old { drains = drains }) }
+    ensures look { (number leg : ℕ) (result : Option Status) (peer : PeerView) → WasLookedAt leg result peer →
+        Leads (mades.Look number leg result) peer peer }
+    ensures describe { (number leg : ℕ) (peer : PeerView) →
+        Leads (mades.Describe number leg (option_map description_of (leg_at peer.legs leg))) peer peer }
+    ensures describe_from { (number leg : ℕ) (peer : PeerView) →
+        Leads (mades.DescribeFrom number leg (description_from peer.legs leg)) peer peer }
+    ensures leg_count { (number : ℕ) (peer : PeerView) →
+        Leads (mades.CountLegs number (count_by is_some peer.legs.places)) peer peer }
+    ensures sums { (number : ℕ) (peer : PeerView) → Leads (mades.ShowSums number (shown peer.accounts)) peer peer }
+    ensures lost { (number : ℕ) (peer : PeerView) → Leads (mades.ShowLost number peer.outbox.lost) peer peer }
+    ensures pokes { (number : ℕ) (peer : PeerView) → Leads (mades.ShowPokes number peer.pokes) peer peer }
+{}
+
+/// A call of `NotedBook` changes the book as its note says, and has the noted answer.
+pub fn calls_lead_the_book()
+    ensures reserve { (peer : ℕ) (book : Book) →
+        LeadsBook (mades.Reserve peer (reserve_answer book peer)) book (after_reserve book peer) }
+    ensures bridge { (a b : LegName) (result : Result (Unit {0}) BridgeError) (old new : Book) →
+        result ≡ bridge_answer old a b → OnOk result (new ≡ bridged old a b) → OnErr result (new ≡ old) →
+        LeadsBook (mades.Bridge a b result) old new }
+    ensures partner { (name : LegName) (book : Book) → LeadsBook (mades.Partner name (partner_of book name)) book book }
+    ensures release { (name : LegName) (result : Result (Option LegName) (LegName × Stale)) (old new : Book) →
+        (IsErr result ↔ (has_name old name ≡ false)) → IfOk result (λ partner. partner ≡ partner_of old name) →
+        OnOk result (new ≡ released old name) → OnErr result (new ≡ old) →
+        LeadsBook (mades.Release name (without_lease result)) old new }
+    ensures next_serial { (book : Book) → LeadsBook (mades.NextSerial book.next) book book }
 {}
 
 /// The steps of a trail put no more into a peer's outbox and trunk queue than their loads together. As long as both have

@@ -6,6 +6,7 @@ mod made;
 mod noted_book;
 mod noted_peer;
 mod pass;
+mod peer_queries;
 mod peer_steps;
 mod seen;
 mod stepped_peers;

@@ -9,8 +9,8 @@ use call_book::{BridgeError, Lease, LegName, PeerId, ReserveError, Stale};
 use iax_frames::{FullHead, Octets, Out};
 use leg_machine::{Caller, Command, Format};
 use peer_lock::{
-    EndedLeg, Onwards, OpenError, OrderError, PeerError, RejectError, Status, Step, StepsSpent,
-    TickReport,
+    Description, EndedLeg, Losses, Onwards, OpenError, OrderError, PeerError, Pokes, RejectError,
+    Status, Step, StepsSpent, Sums, TickReport,
 };
 
 /// A request to a locked state, and its answer. Moments are in milliseconds.
@@ -41,6 +41,20 @@ pub enum Made {
     Tick(PeerId, u64, Result<TickReport, StepsSpent>),
     /// A query of a leg of a peer: its local number, and its status.
     Look(PeerId, u16, Option<Status>),
+    /// A query of a leg of a peer: its local number, and the leg with the values of its call.
+    Describe(PeerId, u16, Option<Seen<Description>>),
+    /// A query of a peer's next leg: the least local number that it may have, and the leg with the values of its call.
+    DescribeFrom(PeerId, u16, Option<Seen<Description>>),
+    /// A query of the number of a peer's legs.
+    CountLegs(PeerId, usize),
+    /// A query of a peer's accounts.
+    ShowSums(PeerId, Sums),
+    /// A query of the datagrams that a full outbox of a peer lost.
+    ShowLost(PeerId, Losses),
+    /// A query of the exchange's POKEs to a peer.
+    ShowPokes(PeerId, Pokes),
+    /// A peer begins to drain, or drains no longer.
+    SetDraining(PeerId, bool),
     /// A leg of a peer is taken out, if it can be: its name, and its facts and its record if it was.
     Retire(PeerId, LegName, Option<Seen<EndedLeg>>),
     /// The oldest datagram of a peer's outbox is taken out, if one waits: its octets.
@@ -51,6 +65,8 @@ pub enum Made {
     Bridge(LegName, LegName, Result<(), BridgeError>),
     /// The book returns the partner of a name.
     Partner(LegName, Option<LegName>),
+    /// A query of the book: the serial of the next name.
+    NextSerial(u64),
     /// A name is returned to the book, which gives its former partner.
     Release(LegName, Result<Option<LegName>, Stale>),
     /// No locked state was asked.

@@ -138,20 +138,15 @@ impl NotedBook {
         answer
     }
 
-    /// Returns the partner of a name, as a query that isn't noted. Returns `None` if the book hasn't the name or it isn't
-    /// bridged.
-    pub fn partner_of(&self, name: LegName) -> Option<LegName>
-        ensures partner { result ≡ partner_of self.now name }
-        ensures mutual { IfSome result (λ partner. partner_of self.now partner ≡ Some name) }
+    /// Returns the serial of the next name, and notes the query.
+    #[tactic(auto, using(crate::proofs::Counted::steps_in_longer, crate::proofs::Stepping::with_longer))]
+    pub fn next_serial<J: LedgerSet>(&self, pass: &mut Pass<J>) -> u64
+        ensures serial { result ≡ self.now.next }
+        ensures noted { pass.new ≡ note (mades.NextSerial result) pass.old }
     {
-        self.book.partner(name)
-    }
-
-    /// The serial of the next name, for whoever asks from outside: it isn't noted.
-    pub fn next_serial(&self) -> u64
-        ensures { result ≡ self.now.next }
-    {
-        self.book.next_serial()
+        let serial = self.book.next_serial();
+        push(&mut pass.made, Made::NextSerial(serial));
+        serial
     }
 
     /// Returns the book itself.

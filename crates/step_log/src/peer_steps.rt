@@ -7,7 +7,7 @@ ghost use Rattle.peer_lock.specs.Makes.{WasHandled};
 ghost use Rattle.peer_lock.specs.Openings.{IsOpening, WasOpenedIn, WasOpenedOut, WasRejected};
 ghost use Rattle.peer_lock.specs.Orders.{WasOrdered};
 ghost use Rattle.peer_lock.specs.Peer.{WasTakenInto, WasTakenOut};
-ghost use Rattle.peer_lock.specs.Statuses.{WasLookedAt, WasRetired};
+ghost use Rattle.peer_lock.specs.Statuses.{WasRetired};
 ghost use Rattle.peer_lock.specs.Ticks.{WasTicked};
 ghost use Rattle.step_log.specs.Notes.{Notes, given_up, note, without_lease};
 ghost use Rattle.step_log.specs.declared.made.Made.TheVariants as mades;
@@ -23,7 +23,7 @@ use iax_frames::{Full, Octets, Out};
 use leg_machine::{Caller, Format, Order};
 use peer_lock::{
     EndedLeg, LedgerSet, Onwards, OpenError, OrderError, PeerError, ReadDatagram, RejectError,
-    Status, Step, StepsSpent, TickReport,
+    Step, StepsSpent, TickReport,
 };
 
 // Returns the octets of an order's media; any other order has none.
@@ -247,18 +247,6 @@ impl<J: LedgerSet> NotedPeer<J> {
         let answer = self.state.tick(&mut pass.credits, now);
         push(&mut pass.made, Made::Tick(self.number, now, answer));
         pass.stepped.tick(self.number, has_skipped(answer));
-        answer
-    }
-
-    /// Returns the status of the leg of a local number, or `None` if there is none. It is noted, and is no step of the
-    /// peer.
-    #[tactic(auto, using(crate::proofs::Counted::steps_in_longer, crate::proofs::Stepping::with_longer))]
-    pub fn look(&self, pass: &mut Pass<J>, number: u16) -> Option<Status>
-        ensures noted { pass.new ≡ note (mades.Look self.now.number number result) pass.old }
-        ensures state { WasLookedAt number result self.now.state }
-    {
-        let answer = self.state.look(number);
-        push(&mut pass.made, Made::Look(self.number, number, answer));
         answer
     }
 

@@ -3,19 +3,26 @@ use std::fs::{DirBuilder, File, Files, Metadata, OpenOptions};
 use std::io::ErrorKind;
 use std::os::unix::fs::{DirBuilderExt, MetadataExt, OpenOptionsExt};
 use std::{fs, io};
-use system_limits::user;
+use system_limits::{refuse_exchanged, refuse_link, user};
 
 /// Makes folders and files by their names. Each type with `Files` has it. A thread can hold one, whatever the type of its
 /// maker's file system is.
 pub trait Folder {
     /// Makes a folder of this name, with the mode 0700, if there is none.
     ///
-    /// Returns `PermissionDenied` if the folder is another user's, or if others may look into it.
+    /// Returns `PermissionDenied` as `check` does.
     fn make(&self, path: &str) -> io::Result<()>;
+
+    /// Checks the folder of this name.
+    ///
+    /// Returns `PermissionDenied` if the folder is another user's, or if others may look into it. It does too if the name is a
+    /// link that neither this user nor root owns.
+    fn check(&self, path: &str) -> io::Result<()>;
 
     /// Opens the file of a name, to overwrite it from its beginning. If there is none, it is made with the mode 0600.
     ///
-    /// Returns `InvalidInput` if the name leads to a pipe, a link, a device or another file that isn't regular.
+    /// Returns `InvalidInput` if the name leads to a pipe, a link, a device or another file that isn't regular, and
+    /// `PermissionDenied` if the name leads to another file after that was opened.
     fn begin(&self, path: &str) -> io::Result<File>;
 
     /// Returns the last change of the file of a name, in seconds since the beginning of 1970, or `None` if there is no
@@ -48,28 +55,34 @@ impl<R: Files<File = File>> Folder for R {
         builder.mode(0o700);
         match builder.create(self, path) {
             Err(error) if error.kind() == ErrorKind::AlreadyExists => {
-                let found = fs::metadata(self, path)?;
-                if is_own(&found) {
-                    Ok(())
-                } else if found.is_dir() {
-                    Err(io::Error::from_raw_os_error(NOT_PERMITTED))
-                } else {
-                    Err(error)
+                if !fs::metadata(self, path)?.is_dir() {
+                    return Err(error);
                 }
+                self.check(path)
             }
             made => made,
         }
+    }
+
+    fn check(&self, path: &str) -> io::Result<()> {
+        refuse_link(&fs::symlink_metadata(self, path)?)?;
+        if is_own(&fs::metadata(self, path)?) {
+            return Ok(());
+        }
+        Err(io::Error::from_raw_os_error(NOT_PERMITTED))
     }
 
     fn begin(&self, path: &str) -> io::Result<File> {
         if !is_free(self, path)? {
             return Err(io::Error::from_raw_os_error(NOT_REGULAR));
         }
-        OpenOptions::new()
+        let file = OpenOptions::new()
             .write(true)
             .create(true)
             .mode(0o600)
-            .open(self, path)
+            .open(self, path)?;
+        refuse_exchanged(&file.metadata()?, &fs::symlink_metadata(self, path)?)?;
+        Ok(file)
     }
 
     fn changed(&self, path: &str) -> Option<i64> {

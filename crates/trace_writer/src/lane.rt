@@ -14,8 +14,8 @@ const LONGEST: usize = 32 + 2049;
 /// A thread's own end of the trace.
 ///
 /// A worker reports the start of a turn and its end, each datagram before the exchange gets it, and the ticks of its peers.
-/// It also reports a datagram that is turned away, a leg that is taken out, and each datagram that it sends. A call of the
-/// exchange is open until the next datagram, the ticks, the first sent datagram, or the end of the turn. A thread that gives
+/// It also reports a datagram that is turned away or refused, a leg that is taken out, and each datagram that it sends. A call
+/// of the exchange is open until the next datagram, the ticks, the first sent datagram, or the end of the turn. A thread that gives
 /// orders reports the start and the end of each.
 ///
 /// Notes stay with the thread until the end of its turn or order. So it notes without a lock, and copies the octets of a
@@ -223,6 +223,15 @@ impl<'t> TraceLane<'t> {
         if let Some((_, input)) = &mut self.open {
             if let Input::Datagram { peer, challenge } = *input {
                 *input = Input::TurnedAway { peer, challenge };
+            }
+        }
+    }
+
+    /// Notes that the exchange refused the last datagram before it reserved a number for it.
+    pub fn refuse(&mut self) {
+        if let Some((_, input)) = &mut self.open {
+            if let Input::Datagram { peer, challenge } = *input {
+                *input = Input::Refused { peer, challenge };
             }
         }
     }

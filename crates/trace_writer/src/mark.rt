@@ -1,6 +1,7 @@
 //! The note of a call of the exchange, until it is written.
 ghost use Rattle.std.specs.Prelude.{◌≡◌, ◌++◌, ◌+◌, ◌∷◌, [], List, length, if◌then◌else◌};
 ghost use Rattle.std.specs.Bool.{OnTrue};
+ghost use Rattle.trace_writer.specs.Shares.{is_refused};
 ghost use Rattle.trace_writer.specs.declared.mark.Mark.{Mark};
 ghost use Rattle.trace_writer.specs.declared.mark.Input.TheVariants.{Nothing};
 
@@ -19,6 +20,8 @@ pub(crate) enum Input {
     Datagram { peer: u16, challenge: u8 },
     /// A datagram of a peer that wasn't handed to the exchange because the service drains.
     TurnedAway { peer: u16, challenge: u8 },
+    /// A datagram of a peer that the exchange refused before it reserved a number for it.
+    Refused { peer: u16, challenge: u8 },
     /// A datagram of an endpoint that no peer has.
     Stranger { from: Endpoint },
     /// A tick of each peer of the worker.
@@ -36,6 +39,18 @@ pub(crate) enum Input {
     Nothing,
     /// No call is up. The octets are the lines that give each peer the order of its free numbers.
     Rest,
+}
+
+impl Input {
+    /// Returns whether the exchange refused the datagram and is as if it had never come. A replay without it is the same.
+    pub(crate) fn is_refused(self) -> bool
+        ensures { result ≡ is_refused self }
+    {
+        matches!(
+            self,
+            Input::Stranger { .. } | Input::TurnedAway { .. } | Input::Refused { .. }
+        )
+    }
 }
 
 /// A call of the exchange.

@@ -90,7 +90,10 @@ impl TraceFolder<'_> {
     // and filling it again.
     fn begin<D: Folder>(&self, disk: &D, alloc: Global, place: u64) -> io::Result<TraceFile> {
         let path = self.path_of(alloc, place)?;
+        disk.check(self.path)?;
         let file = disk.begin(path.as_str())?;
+        // Again, because another user may have exchanged the folder's name meanwhile.
+        disk.check(self.path)?;
         let limit = file_size_limit();
         if write_below(&file, limit, &[END], 0).is_err() {
             file.set_len(0)?;
@@ -109,7 +112,7 @@ impl TraceFolder<'_> {
     /// changed longest ago.
     ///
     /// Returns the system's error of the folder, then of the file. `OutOfMemory`: a request for memory was refused.
-    /// `PermissionDenied`: the folder isn't this user's alone. `InvalidInput`: the name is that of a file that isn't
+    /// `PermissionDenied`: the folder isn't this user's alone, or another user's link leads to it. `InvalidInput`: the name is that of a file that isn't
     /// regular.
     pub fn open<D: Folder>(&self, disk: &D, alloc: Global) -> io::Result<TraceFile> {
         disk.make(self.path)?;

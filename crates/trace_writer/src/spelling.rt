@@ -198,11 +198,11 @@ impl<'p> Script<'p> {
         }
     }
 
-    /// Adds a line with the number of datagrams of strangers that were left out.
-    pub(crate) fn leave_out(&mut self, strangers: u64) {
-        if strangers > 0 {
-            self.lines.text("# Left out: datagrams from strangers, ");
-            self.lines.number(strangers);
+    /// Adds a line with the number of refused datagrams that were left out.
+    pub(crate) fn leave_out(&mut self, refused: u64) {
+        if refused > 0 {
+            self.lines.text("# Left out: refused datagrams, ");
+            self.lines.number(refused);
             self.lines.text(" of them.\n");
         }
     }
@@ -265,12 +265,18 @@ impl<'p> Script<'p> {
         self.missing == 0 && !mark.is_beside && mark.now == self.now
     }
 
-    // Adds the values that the exchange drew when it was opened: the prefix of its challenges, and, if a peer needs call
-    // tokens, their key.
+    // Adds the values that the exchange drew when it was opened: the prefix of its challenges, the offset of its POKEs'
+    // timestamps, and, if a peer needs call tokens, their key.
     fn write_drawn(&mut self) {
         if let Some(prefix) = self.plan.challenge_prefix() {
             self.lines.text("prefix ");
             self.lines.put(prefix.as_slice());
+            self.lines.text("\n");
+        }
+        let offset = self.plan.poke_offset();
+        if offset > 0 {
+            self.lines.text("offset ");
+            self.lines.number(u64::from(offset));
             self.lines.text("\n");
         }
         if let Some(key) = token_key(self.plan) {
@@ -291,7 +297,7 @@ impl<'p> Script<'p> {
     // Adds the input of a call.
     fn write_input(&mut self, thread: usize, input: Input, octets: &[u8]) {
         match input {
-            Input::Datagram { peer, challenge } => {
+            Input::Datagram { peer, challenge } | Input::Refused { peer, challenge } => {
                 let (challenge, octets) = octets.split_at(octets.len().min(usize::from(challenge)));
                 self.write_challenge(challenge);
                 self.write_datagram(PeerId::new(peer), octets);

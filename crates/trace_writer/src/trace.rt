@@ -16,6 +16,8 @@ pub struct TraceState {
     pub lost: u64,
     /// The reason why the trace ended before the service, if it did.
     pub fault: Option<Fault>,
+    /// Calls of the exchange that weren't written within five seconds of the end of the service.
+    pub left: u64,
 }
 
 /// The notes of the threads, and the state of the writer's files. All threads share it.
@@ -38,6 +40,7 @@ pub struct Trace {
     written: AtomicU64,
     lost: AtomicU64,
     fault: AtomicU64,
+    left: AtomicU64,
 }
 
 // Written out, so that an owner proves one call at its drop, not the drop of each field.
@@ -57,6 +60,7 @@ impl Drop for Trace {
             written: _,
             lost: _,
             fault: _,
+            left: _,
         } = self;
     }
 }
@@ -87,6 +91,7 @@ impl Trace {
             written: AtomicU64::new(0),
             lost: AtomicU64::new(0),
             fault: AtomicU64::new(0),
+            left: AtomicU64::new(0),
         })
     }
 
@@ -130,6 +135,7 @@ impl Trace {
             written: self.written.load(Ordering::SeqCst),
             lost: self.lost.load(Ordering::SeqCst),
             fault: fault_of(self.fault.load(Ordering::SeqCst)),
+            left: self.left.load(Ordering::SeqCst),
         }
     }
 
@@ -164,6 +170,13 @@ impl Trace {
     /// Counts a call that wasn't noted.
     pub(crate) fn count_lost(&self) {
         self.lost.fetch_add(1, Ordering::SeqCst);
+    }
+
+    /// Records that of the calls of the exchange only the first `written` were written.
+    pub(crate) fn leave_rest(&self, written: u64) {
+        let begun = self.calls.begun_if_none_is_open().unwrap_or(written);
+        self.left
+            .store(begun.saturating_sub(written), Ordering::SeqCst);
     }
 
     /// Records that the writer gave up, and why.

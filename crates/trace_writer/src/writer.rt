@@ -12,7 +12,7 @@ use std::alloc::{AllocError, Global};
 use std::sync::Wait;
 use std::thread;
 use std::thread::Threads;
-use std::time::{Clock, Duration};
+use std::time::{Clock, Duration, Instant};
 
 // The writer's rest after a round, in milliseconds. After much output the rest is shorter, so that a thread's notes are
 // still in the processor's cache when they are read and when they are overwritten.
@@ -27,12 +27,18 @@ const MUCH: u64 = 3200;
 // writing some eight thousand octets.
 const PIECE: usize = 262_144;
 
-// At most 1 of this many octets of a file belongs to strangers' datagrams, so that strangers don't push calls out of the
-// trace.
-const STRANGERS: u64 = 8;
+// At most 1 of this many octets of a file belongs to refused datagrams, so that neither strangers nor those who forge a
+// peer's address push calls out of the trace by them.
+const REFUSED: u64 = 8;
 
 // The fault if there is no memory for a file's head or lines.
 const NO_MEMORY: Fault = Fault { code: Some(12) };
+
+// The time for which notes are written after the end of the service, in milliseconds, and the fault if that isn't enough: the
+// system's error "Connection timed out".
+const END_MS: u64 = 5000;
+
+const TOO_SLOW: Fault = Fault { code: Some(110) };
 
 // The batches that a thread has handed over, and the part already written: batches, then marks and octets of the next
 // batch.
@@ -64,7 +70,12 @@ impl Taken {
     }
 
     // Writes the lines of the thread's next calls, as long as their numbers are consecutive and they are in one batch.
-    fn tell<D: Folder>(&mut self, thread: usize, writer: &mut Writer<'_, D>) -> Result<(), Fault> {
+    fn tell<R: Clock, D: Folder>(
+        &mut self,
+        rt: &R,
+        thread: usize,
+        writer: &mut Writer<'_, D>,
+    ) -> Result<(), Fault> {
         let Some(batch) = self.batches.get(self.written) else {
             return Ok(());
         };
@@ -74,7 +85,7 @@ impl Taken {
             }
             let end = self.octets.saturating_add(mark.octets);
             let octets = batch.octets.get(self.octets..end).unwrap_or(b"");
-            writer.tell(thread, mark, octets)?;
+            writer.tell(rt, thread, mark, octets)?;
             writer.next = writer.next.wrapping_add(1);
             self.marks = self.marks.saturating_add(1);
             self.octets = end;
@@ -144,9 +155,11 @@ struct Writer<'a, D: Folder> {
     next: u64,
     // The number of octets written in this round.
     written: u64,
-    // The octets of strangers' lines in the file, and the number of strangers' datagrams that were left out.
-    strangers: u64,
+    // The octets of the lines of refused datagrams in the file, and the number of those that were left out.
+    refused: u64,
     left_out: u64,
+    // The moment at which the service was first seen to have ended.
+    ended: Option<Instant>,
 }
 
 impl<'a, D: Folder> Writer<'a, D> {
@@ -173,8 +186,9 @@ impl<'a, D: Folder> Writer<'a, D> {
                 part: 0,
                 next: 0,
                 written: 0,
-                strangers: 0,
+                refused: 0,
                 left_out: 0,
+                ended: None,
             }),
             Err(_) => Err(NO_MEMORY),
         }
@@ -215,7 +229,7 @@ impl<'a, D: Folder> Writer<'a, D> {
 
     // Ends the file and begins the next.
     fn turn_over(&mut self, orders: Option<&[u8]>) -> Result<(), Fault> {
-        self.end_strangers();
+        self.end_refused();
         self.write()?;
         self.file.finish();
         self.file = self
@@ -225,17 +239,17 @@ impl<'a, D: Folder> Writer<'a, D> {
         self.begin_part(orders)
     }
 
-    // Adds the file's last line, the number of strangers' datagrams that were left out, if there are any.
-    fn end_strangers(&mut self) {
+    // Adds the file's last line, the number of refused datagrams that were left out, if there are any.
+    fn end_refused(&mut self) {
         self.script.leave_out(self.left_out);
-        self.strangers = 0;
+        self.refused = 0;
         self.left_out = 0;
     }
 
-    // Adds the lines of a stranger's datagram, unless the file's share for them is used up. Returns whether there was
-    // memory for them.
-    fn push_stranger(&mut self, thread: usize, mark: &Mark, octets: &[u8]) -> bool {
-        if self.strangers >= self.settings.folder.part() / STRANGERS {
+    // Adds the lines of a refused datagram, unless the file's share for them is used up. Returns whether there was memory for
+    // them.
+    fn push_refused(&mut self, thread: usize, mark: &Mark, octets: &[u8]) -> bool {
+        if self.refused >= self.settings.folder.part() / REFUSED {
             self.left_out = self.left_out.saturating_add(1);
             // A pending note about missing calls comes before the next call.
             return self.script.push(thread, &mark.emptied(), b"");
@@ -244,8 +258,32 @@ impl<'a, D: Folder> Writer<'a, D> {
         let is_pushed = self.script.push(thread, mark, octets);
         let after = self.script.lines.octets.len() as u64;
         let octets = after.saturating_sub(before);
-        self.strangers = self.strangers.saturating_add(octets);
+        self.refused = self.refused.saturating_add(octets);
         is_pushed
+    }
+
+    // Returns whether the service has ended five seconds ago.
+    fn is_late<R: Clock>(&mut self, rt: &R) -> bool {
+        if !self.trace.are_over() {
+            return false;
+        }
+        let Some(ended) = self.ended else {
+            self.ended = Instant::now(rt).ok();
+            return false;
+        };
+        match ended.elapsed(rt) {
+            Ok(elapsed) => elapsed >= Duration::from_millis(END_MS),
+            Err(_) => false,
+        }
+    }
+
+    // Counts the calls that aren't written yet, and returns `TOO_SLOW`, if the service has ended five seconds ago.
+    fn end_if_late<R: Clock>(&mut self, rt: &R) -> Result<(), Fault> {
+        if !self.is_late(rt) {
+            return Ok(());
+        }
+        self.trace.leave_rest(self.next.wrapping_add(1));
+        Err(TOO_SLOW)
     }
 
     // Returns the length of the file once the lines are written.
@@ -257,7 +295,13 @@ impl<'a, D: Folder> Writer<'a, D> {
 
     // Adds the lines of a call, and begins the next file if this one is full. At a moment without calls it does so when the
     // file is half full.
-    fn tell(&mut self, thread: usize, mark: &Mark, octets: &[u8]) -> Result<(), Fault> {
+    fn tell<R: Clock>(
+        &mut self,
+        rt: &R,
+        thread: usize,
+        mark: &Mark,
+        octets: &[u8],
+    ) -> Result<(), Fault> {
         let part = self.settings.folder.part();
         let length = self.length();
         if matches!(mark.input, Input::Rest) && length >= part / 2 {
@@ -265,23 +309,25 @@ impl<'a, D: Folder> Writer<'a, D> {
         } else if length >= part {
             self.turn_over(None)?;
         }
-        let is_pushed = match mark.input {
-            Input::Stranger { .. } => self.push_stranger(thread, mark, octets),
-            _ => self.script.push(thread, mark, octets),
+        let is_pushed = if mark.input.is_refused() {
+            self.push_refused(thread, mark, octets)
+        } else {
+            self.script.push(thread, mark, octets)
         };
         if !is_pushed {
             self.trace.count_lost();
         }
-        if self.script.lines.octets.len() >= PIECE {
-            self.write()?;
+        if self.script.lines.octets.len() < PIECE {
+            return Ok(());
         }
-        Ok(())
+        self.write()?;
+        self.end_if_late(rt)
     }
 }
 
 // Writes the next calls of each thread in turn, in the order in which the calls began, as far as they have been handed
 // over. Returns whether there were any.
-fn tell_some<R: Wait, D: Folder>(
+fn tell_some<R: Clock + Wait, D: Folder>(
     rt: &R,
     taken: &mut [Taken],
     writer: &mut Writer<'_, D>,
@@ -290,7 +336,7 @@ fn tell_some<R: Wait, D: Folder>(
     for (thread, one) in taken.iter_mut().enumerate() {
         one.refill(rt, writer.trace, thread);
         if one.next() == Some(writer.next) {
-            one.tell(thread, writer)?;
+            one.tell(rt, thread, writer)?;
             has_told = true;
         }
     }
@@ -306,8 +352,9 @@ fn rest_after(written: u64, rest_ms: u64) -> u64 {
     }
 }
 
-// Writes all that the threads have noted up to now.
-fn write_noted<R: Wait, D: Folder>(
+// Writes all that the threads have noted up to now. If a file is so slow that the service ended five seconds ago, the rest is
+// counted and left.
+fn write_noted<R: Clock + Wait, D: Folder>(
     rt: &R,
     notes: &mut TraceNotes,
     writer: &mut Writer<'_, D>,
@@ -319,7 +366,7 @@ fn write_noted<R: Wait, D: Folder>(
         }
     }
     if are_over {
-        writer.end_strangers();
+        writer.end_refused();
         writer.script.end();
     }
     writer.write()?;

@@ -27,6 +27,11 @@ IsFull queue octets = (256 ≤ length queue) ⊎ (16384 < media_octets queue + o
 abbrev pub has_call : ℕ → List QueueEntry → Bool
 has_call number queue = list_any (λ e. e.number == number) queue
 
+-- the number of queued entries of a call
+abbrev pub call_entries : ℕ → List QueueEntry → ℕ
+call_entries number [] = 0
+call_entries number (e ∷ es) = (if e.number == number then 1 else 0) + call_entries number es
+
 -- an entry as a trunk frame has it
 abbrev pub trunk_entry : Bool → QueueEntry → TrunkEntry
 trunk_entry timed e = entry_of timed e.number e.timestamp e.media

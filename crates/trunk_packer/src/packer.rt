@@ -1,9 +1,9 @@
 //! The trunk queue of a peer ("Meta Frames").
 ghost use Rattle.std.specs.Prelude.{◌≡◌, ℕ, ◌+◌, ◌<◌, ◌≤◌, ◌↔◌, ◌^◌, List, [], ◌∷◌, ◌++◌, length, slice_index, IsTrue, IsOk};
-ghost use Rattle.std.specs.Prelude.{IfOk, OnOk, OnErr, Some, IsNone, IfNone, IfSome};
+ghost use Rattle.std.specs.Prelude.{nat_le, IfOk, OnOk, OnErr, Some, IsNone, IfNone, IfSome};
 ghost use Rattle.iax_frames.specs.TrunkFrame.{IsTrunk, head_len, is_timed};
 ghost use Rattle.trunk_packer.specs.Queue.{QueueEntry, media_octets, HasRoom, IsFull, PacksFront};
-ghost use Rattle.trunk_packer.specs.Queue.{has_call, trunk_octets, trunk_spelling};
+ghost use Rattle.trunk_packer.specs.Queue.{call_entries, has_call, trunk_octets, trunk_spelling};
 ghost use Rattle.trunk_packer.specs.Stored.{stored, IsStored, first_stored};
 ghost use Rattle.trunk_packer.specs.Packing.{AppendsFront};
 ghost use Rattle.memory_requests.specs.Refused.{WasRefused};
@@ -89,19 +89,35 @@ impl Packer {
         self.entries == 0
     }
 
+    // Returns the number of queued entries of a call, 0 ..= 256.
+    fn call_entries(&self, number: CallNumber) -> usize
+        ensures entries { result ≡ call_entries number self.now }
+        ensures few { result ≤ length self.now }
+    {
+        let (front, back) = self.octets.as_slices();
+        let mut left = Pieces { front, back };
+        let mut entries = 0;
+        while let Some((entry, rest)) = split_entry(&left) {
+            if entry.is_of(number) {
+                entries += 1;
+            }
+            left = rest;
+        }
+        entries
+    }
+
     /// Returns whether media of a call is queued.
     pub fn has_call(&self, number: CallNumber) -> bool
         ensures { result ≡ has_call number self.now }
     {
-        let (front, back) = self.octets.as_slices();
-        let mut left = Pieces { front, back };
-        while let Some((entry, rest)) = split_entry(&left) {
-            if entry.is_of(number) {
-                return true;
-            }
-            left = rest;
-        }
-        false
+        self.call_entries(number) > 0
+    }
+
+    /// Returns whether at least `count` entries of a call are queued.
+    pub fn has_entries(&self, number: CallNumber, count: usize) -> bool
+        ensures { result ≡ nat_le count (call_entries number self.now) }
+    {
+        self.entries >= count && self.call_entries(number) >= count
     }
 
     /// Returns the length in octets of a trunk frame of the whole queue. `timed` says whether its entries have timestamps.

@@ -188,6 +188,7 @@ module _ (peer : ℕ) (octets : List ℕ) (waiting : Signals) where
   stays was earlier (places.GiveBack name) reply rest quiet names stands = none_left waiting
   stays was earlier (places.Routing offered) (replies.Route (routes.To other format)) rest quiet names stands = stands
   stays was earlier (places.Routing offered) (replies.Route routes.WithoutFormat) rest quiet names stands = stands
+  stays was earlier (places.Routing offered) (replies.Route routes.BadNumber) rest quiet names stands = stands
   stays was earlier (places.Routing offered) reply rest quiet names stands = stands
   stays was earlier (places.Rejecting offered cause) (replies.Order (Ok done)) rest quiet names stands = goes earlier rest stands
   stays was earlier (places.Rejecting offered cause) reply rest quiet names stands = stands

@@ -50,7 +50,7 @@ unasked_quiet call handed (needs.Order name command) reply is =
 unasked_quiet call handed (needs.Look peer number) reply is =
     quiet_is reply _ is.0 (record { quiet = refl; names = λ octets place was earlier. tt })
 unasked_quiet call handed (needs.Retire name) reply is =
-    quiet_is reply _ is (record { quiet = refl; names = λ octets place was earlier. tt })
+    quiet_is reply _ is.0 (record { quiet = refl; names = λ octets place was earlier. tt })
 unasked_quiet call handed (needs.Route name) (replies.Route route) is =
     record { quiet = refl; names = λ octets place was earlier. tt }
 unasked_quiet call handed (needs.Route name) reply is = absurd is
@@ -187,6 +187,14 @@ module _ (call : Call) (peer : ℕ) where
       let names = names_reserved work.place first answer (next ∙ ap Some made.0) call.octets earlier in
       (waiting, refl, kept earlier _ waiting work reply (replies.Reserve answer) made.1 refl names stands)
   carries_at handed need reply (mades.TakeOut first out) work earlier waiting next made stands = absurd made
+  carries_at handed need reply (mades.SetDraining first drains) work earlier waiting next made stands = absurd made
+  carries_at handed need reply (mades.Describe first number answer) work earlier waiting next made stands = absurd made
+  carries_at handed need reply (mades.DescribeFrom first number answer) work earlier waiting next made stands = absurd made
+  carries_at handed need reply (mades.CountLegs first count) work earlier waiting next made stands = absurd made
+  carries_at handed need reply (mades.ShowSums first sums) work earlier waiting next made stands = absurd made
+  carries_at handed need reply (mades.ShowLost first lost) work earlier waiting next made stands = absurd made
+  carries_at handed need reply (mades.ShowPokes first pokes) work earlier waiting next made stands = absurd made
+  carries_at handed need reply (mades.NextSerial serial) work earlier waiting next made stands = absurd made
   carries_at handed need reply mades.Unasked work earlier waiting next made stands =
       let quiet = unasked_quiet call handed need reply made in
       let names = quiet.names call.octets work.place earlier (mades.Unasked ∷ earlier) in

@@ -17,10 +17,12 @@ use Rattle.step_log.specs.declared.made.Made.{Made}
 use Rattle.step_log.specs.declared.made.Made.TheVariants as mades
 use Rattle.peer_lock.specs.Arrivals.{datagram_step}
 use Rattle.peer_lock.specs.CarriedMedia.{Ascends, CarriesItsOwn, HasNoSpan, LiesWithin}
+use Rattle.peer_lock.specs.HandedUp.{HandedUp}
 use Rattle.peer_lock.specs.Openings.{opens_in}
 use Rattle.peer_lock.specs.Peer.{PeerView}
+use Rattle.peer_lock.specs.declared.steps.Step.{Step}
 use Rattle.udp_workers.specs.Carried.{Carries, CarriesAt, PassesOn}
-use Rattle.udp_workers.specs.CarriedAcross.{AreSpans, IsSpan}
+use Rattle.udp_workers.specs.CarriedAcross.{AreSpans, HandsUp, IsSpan}
 
 abbrev Signals : Type 0
 Signals = List (LegName × Signal)
@@ -33,31 +35,66 @@ lower at other ((name, signals.Media span) ∷ up) le ascends =
     let start : at ≤ span.start = omega (arith, le, ascends.0) in (start, ascends.1, ascends.2)
 lower at other ((name, signal) ∷ up) le ascends = lower at other up le ascends
 
--- signals that ascend from a place, all of whose media lies within a datagram of len octets
-record Waits (len at : ℕ) (up : Signals) : Type 0 where
+-- media that the noted step of a datagram with these octets handed up at this leg
+abbrev IsHanded : List Made → List ℕ → LegName × Signal → Type 0
+IsHanded full octets (leg, signals.Media span) = HandsUp full octets leg span
+IsHanded full octets (leg, signal) = Unit {0}
+
+-- signals that ascend from a place; all their media lies within a datagram with these octets, whose step handed it up
+record Waits (full : List Made) (octets : List ℕ) (at : ℕ) (up : Signals) : Type 0 where
   ascends : Ascends at up
-  within : AllByRecursion (LiesWithin len) up
+  within : AllByRecursion (LiesWithin (length octets)) up
+  handed : AllByRecursion (IsHanded full octets) up
 
 -- the signals behind those that are passed over
-behind : (len at : ℕ) (over up : Signals) → Waits len at (over ++ up) → Waits len at up
-behind len at [] up waits = waits
-behind len at ((name, signals.Media span) ∷ over) up waits =
+behind : (full : List Made) (octets : List ℕ) (at : ℕ) (over up : Signals) → Waits full octets at (over ++ up)
+    → Waits full octets at up
+behind full octets at [] up waits = waits
+behind full octets at ((name, signals.Media span) ∷ over) up waits =
     let le : at ≤ span.end = omega (arith, waits.ascends.0, waits.ascends.1) in
-    behind len at over up (record { ascends = lower at span.end (over ++ up) le waits.ascends.2; within = waits.within.1 })
-behind len at ((name, signal) ∷ over) up waits =
-    behind len at over up (record { ascends = waits.ascends; within = waits.within.1 })
+    behind full octets at over up (record {
+      ascends = lower at span.end (over ++ up) le waits.ascends.2;
+      within = waits.within.1;
+      handed = waits.handed.1;
+    })
+behind full octets at ((name, signal) ∷ over) up waits =
+    behind full octets at over up (record { ascends = waits.ascends; within = waits.within.1; handed = waits.handed.1 })
 
 -- signals without media
-none_wait : (len at : ℕ) (up : Signals) → AllByRecursion HasNoSpan up → Waits len at up
-none_wait len at [] none = record { ascends = tt; within = tt }
-none_wait len at ((name, signals.Media span) ∷ up) none = absurd none.0
-none_wait len at ((name, signal) ∷ up) none =
-    let rest = none_wait len at up none.1 in record { ascends = rest.ascends; within = (tt, rest.within) }
+none_wait : (full : List Made) (octets : List ℕ) (at : ℕ) (up : Signals) → AllByRecursion HasNoSpan up
+    → Waits full octets at up
+none_wait full octets at [] none = record { ascends = tt; within = tt; handed = tt }
+none_wait full octets at ((name, signals.Media span) ∷ up) none = absurd none.0
+none_wait full octets at ((name, signal) ∷ up) none =
+    let rest = none_wait full octets at up none.1 in
+    record { ascends = rest.ascends; within = (tt, rest.within); handed = (tt, rest.handed) }
 
--- ---- notes
+-- ---- lists
 
-there : (note : Made) (notes : List Made) (x : Made) → Contains notes x → Contains (note ∷ notes) x
-there note notes x found = (suc found.0, omega (arith, found.1), found.2)
+there : {A : Type 0} (first : A) (rest : List A) (x : A) → Contains rest x → Contains (first ∷ rest) x
+there first rest x found = (suc found.0, omega (arith, found.1), found.2)
+
+begins : {A : Type 0} (first : A) (rest : List A) → Contains (first ∷ rest) first
+begins first rest = (zero, omega arith, refl)
+
+-- what the step of a datagram handed up
+all_handed : (full : List Made) (octets : List ℕ) (peer now : ℕ) (step : Step) (onwards : HandedUp)
+    → Contains full (mades.Datagram peer octets now (Ok step) onwards) → (up : Signals)
+    → ((x : LegName × Signal) → Contains up x → Contains onwards.signals x) → AllByRecursion (IsHanded full octets) up
+all_handed full octets peer now step onwards noted [] among = tt
+all_handed full octets peer now step onwards noted ((leg, signals.Media span) ∷ up) among = (
+  record {
+    peer = peer;
+    now = now;
+    step = step;
+    onwards = onwards;
+    noted = noted;
+    signal = among (leg, signals.Media span) (begins (leg, signals.Media span) up);
+  },
+  all_handed full octets peer now step onwards noted up (λ x found. among x (there (leg, signals.Media span) up x found)),
+)
+all_handed full octets peer now step onwards noted ((leg, signal) ∷ up) among =
+    (tt, all_handed full octets peer now step onwards noted up (λ x found. among x (there (leg, signal) up x found)))
 
 -- ---- a step
 
@@ -68,7 +105,7 @@ here place step = cond (is_at place (place_of step)) (media_in step) []
 -- the signals that wait after a step, and the media of the step ahead of the media of later ones
 record Onward (full : List Made) (octets : List ℕ) (at place : ℕ) (step : Made) (further : Signals) : Type 0 where
   next : ℕ
-  waits : Waits (length octets) next further
+  waits : Waits full octets next further
   spans : (others : List OrderedMedia) → AreSpans full octets next others → AreSpans full octets at (here place step ++ others)
 
 spans_lower : (full : List Made) (octets : List ℕ) (at other : ℕ) (media : List OrderedMedia) → at ≤ other
@@ -80,6 +117,7 @@ spans_lower full octets at other (ordered ∷ others) le spans =
       spans.0,
       record {
         leg = one.leg;
+        handed = one.handed;
         partner = one.partner;
         behind = start;
         forward = one.forward;
@@ -97,7 +135,7 @@ no_more full octets at false others spans = spans
 -- a step that isn't an order of media
 quiet : (full : List Made) (octets : List ℕ) (at next place : ℕ) (step : Made) (further : Signals) → media_in step ≡ []
     → at ≤ next
-    → Waits (length octets) next further → Onward full octets at place step further
+    → Waits full octets next further → Onward full octets at place step further
 quiet full octets at next place step further none le waits = record {
   next = next;
   waits = waits;
@@ -108,24 +146,25 @@ quiet full octets at next place step further none le waits = record {
 
 -- an order of media, which was obeyed or refused
 passes : (full : List Made) (octets : List ℕ) (at : ℕ) (earlier : List Made) (waiting further : Signals) (name : LegName)
-    (media : List ℕ) → AllByRecursion (Contains full) earlier → Waits (length octets) at waiting
+    (media : List ℕ) → AllByRecursion (Contains full) earlier → Waits full octets at waiting
     → PassesOn octets earlier waiting further name media
     → (span : MediaSpan) × IsSpan full octets at (record { name = name; media = media }) span
-    × Waits (length octets) span.end further
+    × Waits full octets span.end further
 passes full octets at earlier waiting further name media found waits passing =
-    let rest = behind (length octets) at passing.passed_over ((passing.leg, signals.Media passing.span) ∷ further)
-    (subst (λ (up : Signals). Waits (length octets) at up) passing.waits waits) in
+    let rest = behind full octets at passing.passed_over ((passing.leg, signals.Media passing.span) ∷ further)
+    (subst (λ (up : Signals). Waits full octets at up) passing.waits waits) in
     let named = subst (λ (notes : List Made). AllByRecursion (Contains full) notes) passing.named found in (
       passing.span,
       record {
         leg = passing.leg;
+        handed = rest.handed.0;
         partner = named.0;
         behind = rest.ascends.0;
         forward = rest.ascends.1;
         within = rest.within.0.1;
         media = passing.media_is;
       },
-      record { ascends = rest.ascends.2; within = rest.within.1 },
+      record { ascends = rest.ascends.2; within = rest.within.1; handed = rest.handed.1 },
     )
 
 obeyed : (full : List Made) (octets : List ℕ) (at : ℕ) (b : Bool) (ordered : OrderedMedia) (span : MediaSpan)
@@ -144,11 +183,11 @@ module _ (within : (first : ℕ) (peer : PeerView) (octets : List ℕ) (datagram
     → AllByRecursion HasNoSpan (opens_in peer name frame now challenge).signals) (place : ℕ) (full : List Made)
     (octets : List ℕ) (peer : ℕ) where
   onward : (step : Made) (earlier : List Made) (waiting further : Signals) (at : ℕ) (old new : List PeerView)
-      → AllByRecursion (Contains full) earlier → (earlier ≡ [] → at ≡ 0) → Waits (length octets) at waiting
+      → Contains full step → AllByRecursion (Contains full) earlier → (earlier ≡ [] → at ≡ 0) → Waits full octets at waiting
       → CarriesAt peer octets earlier waiting step further → LeadsAll (place_of step) step old new
       → Onward full octets at place step further
-  onward (mades.Datagram other received now (Ok step) onwards) earlier waiting further at old new found begun waits carries
-      leads =
+  onward (mades.Datagram other received now (Ok step) onwards) earlier waiting further at old new among found begun waits
+      carries leads =
       let first = leads.leads.first in
       let before : PeerView = leads.before in
       let datagram : Datagram = leads.leads.datagram in
@@ -156,30 +195,34 @@ module _ (within : (first : ℕ) (peer : PeerView) (octets : List ℕ) (datagram
       let own = within first before received datagram now leads.leads.spelled in
       let start : at ≡ 0 = begun carries.2 in
       let none : at ≤ 0 = omega (arith, start) in
+      let handed : Waits full received 0 onwards.signals = record {
+        ascends = subst (λ (s : Signals). Ascends 0 s) (sym up) (ascends first before datagram now);
+        within = subst (λ (s : Signals). AllByRecursion (LiesWithin (length received)) s) (sym up) own.within;
+        handed = all_handed full received other now step onwards among onwards.signals (λ x found. found);
+      } in
       quiet full octets at 0 place (mades.Datagram other received now (Ok step) onwards) further refl none
-      (subst (λ (s : Signals). Waits (length octets) 0 s) (sym (carries.3 ∙ up))
-      (subst (λ (o : List ℕ). Waits (length o) 0 (datagram_step first before datagram now).signals) carries.1
-      (record { ascends = ascends first before datagram now; within = own.within })))
-  onward (mades.Datagram other received now (Err error) onwards) earlier waiting further at old new found begun waits carries
+      (subst (λ (s : Signals). Waits full octets 0 s) (sym carries.3)
+      (subst (λ (o : List ℕ). Waits full o 0 onwards.signals) carries.1 handed))
+  onward (mades.Datagram other received now (Err error) onwards) earlier waiting further at old new among found begun waits carries
       leads =
       quiet full octets at at place (mades.Datagram other received now (Err error) onwards) further refl (omega arith)
-      (subst (λ (s : Signals). Waits (length octets) at s) (sym carries.3) (none_wait (length octets) at [] tt))
-  onward (mades.OpenIn other name head payload now challenge (Ok step) onwards) earlier waiting further at old new found begun
+      (subst (λ (s : Signals). Waits full octets at s) (sym carries.3) (none_wait full octets at [] tt))
+  onward (mades.OpenIn other name head payload now challenge (Ok step) onwards) earlier waiting further at old new among found begun
       waits
       carries leads =
       let frame : FullFrame = record { head = head; payload = payload } in
       let before : PeerView = leads.before in
       quiet full octets at at place (mades.OpenIn other name head payload now challenge (Ok step) onwards) further refl
       (omega arith)
-      (subst (λ (s : Signals). Waits (length octets) at s) (sym (carries.2 ∙ leads.leads.signals))
-      (none_wait (length octets) at (opens_in before name frame now challenge).signals
+      (subst (λ (s : Signals). Waits full octets at s) (sym (carries.2 ∙ leads.leads.signals))
+      (none_wait full octets at (opens_in before name frame now challenge).signals
       (calls_in before name frame now challenge)))
-  onward (mades.OpenIn other name head payload now challenge (Err error) onwards) earlier waiting further at old new found begun
+  onward (mades.OpenIn other name head payload now challenge (Err error) onwards) earlier waiting further at old new among found begun
       waits carries leads =
       quiet full octets at at place (mades.OpenIn other name head payload now challenge (Err error) onwards) further refl
       (omega arith)
-      (subst (λ (s : Signals). Waits (length octets) at s) (sym carries.2) (none_wait (length octets) at [] tt))
-  onward (mades.Order other name (commands.Media tt) media now (Ok step)) earlier waiting further at old new found begun waits
+      (subst (λ (s : Signals). Waits full octets at s) (sym carries.2) (none_wait full octets at [] tt))
+  onward (mades.Order other name (commands.Media tt) media now (Ok step)) earlier waiting further at old new among found begun waits
       carries leads =
       let passing = passes full octets at earlier waiting further name media found waits carries.1 in
       record {
@@ -189,33 +232,33 @@ module _ (within : (first : ℕ) (peer : PeerView) (octets : List ℕ) (datagram
             obeyed full octets at (is_at place (Some other)) (record { name = name; media = media }) passing.0 others passing.1
             spans;
       }
-  onward (mades.Order other name (commands.Media tt) media now (Err error)) earlier waiting further at old new found begun waits
+  onward (mades.Order other name (commands.Media tt) media now (Err error)) earlier waiting further at old new among found begun waits
       carries leads =
       let passing = passes full octets at earlier waiting further name media found waits carries.1 in
       let le : at ≤ passing.0.end = omega (arith, passing.1.behind, passing.1.forward) in
       quiet full octets at passing.0.end place (mades.Order other name (commands.Media tt) media now (Err error)) further refl le
       passing.2
-  onward (mades.Order other name kind media now (Ok step)) earlier waiting further at old new found begun waits carries leads =
+  onward (mades.Order other name kind media now (Ok step)) earlier waiting further at old new among found begun waits carries leads =
       quiet full octets at at place (mades.Order other name kind media now (Ok step)) further refl (omega arith)
-      (subst (λ (s : Signals). Waits (length octets) at s) (sym carries.1) waits)
-  onward (mades.Order other name kind media now (Err error)) earlier waiting further at old new found begun waits carries leads =
+      (subst (λ (s : Signals). Waits full octets at s) (sym carries.1) waits)
+  onward (mades.Order other name kind media now (Err error)) earlier waiting further at old new among found begun waits carries leads =
       quiet full octets at at place (mades.Order other name kind media now (Err error)) further refl (omega arith)
-      (subst (λ (s : Signals). Waits (length octets) at s) (sym carries.1) waits)
-  onward step earlier waiting further at old new found begun waits carries leads =
+      (subst (λ (s : Signals). Waits full octets at s) (sym carries.1) waits)
+  onward step earlier waiting further at old new among found begun waits carries leads =
       quiet full octets at at place step further refl (omega arith)
-      (subst (λ (s : Signals). Waits (length octets) at s) (sym carries) waits)
+      (subst (λ (s : Signals). Waits full octets at s) (sym carries) waits)
 
   -- ---- all steps of a call
 
   spans_from : (steps earlier : List Made) (waiting : Signals) (at : ℕ) (old new : List PeerView)
       → AllByRecursion (Contains full) earlier → ((x : Made) → Contains steps x → Contains full x) → (earlier ≡ [] → at ≡ 0)
-      → Waits (length octets) at waiting → Carries peer octets earlier waiting steps → Follow steps old new
+      → Waits full octets at waiting → Carries peer octets earlier waiting steps → Follow steps old new
       → AreSpans full octets at (media_at place steps)
   spans_from [] earlier waiting at old new found all begun waits carries follow = tt
   spans_from (step ∷ rest) earlier waiting at old new found all begun waits carries follow =
-      let one = onward step earlier waiting carries.0 at old follow.0 found begun waits carries.1 follow.1 in
+      let one = onward step earlier waiting carries.0 at old follow.0 (all step (begins step rest)) found begun waits carries.1 follow.1 in
       one.spans (media_at place rest)
-      (spans_from rest (step ∷ earlier) carries.0 one.next follow.0 new (all step (zero, omega arith, refl), found)
+      (spans_from rest (step ∷ earlier) carries.0 one.next follow.0 new (all step (begins step rest), found)
       (λ x among. all x (there step rest x among)) (λ is. cc) one.waits carries.2 follow.2)
 
 pub call_spans : (within : (first : ℕ) (peer : PeerView) (octets : List ℕ) (datagram : Datagram) (now : ℕ)
@@ -229,4 +272,4 @@ pub call_spans : (within : (first : ℕ) (peer : PeerView) (octets : List ℕ) (
     → Follow steps before after → (place : ℕ) → AreSpans steps octets 0 (media_at place steps)
 call_spans within ascends calls_in octets peer steps before after carries follow place =
     spans_from within ascends calls_in place steps octets peer steps [] [] 0 before after tt (λ x among. among) (λ is. refl)
-    (record { ascends = tt; within = tt }) carries follow
+    (record { ascends = tt; within = tt; handed = tt }) carries follow

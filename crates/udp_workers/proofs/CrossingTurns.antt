@@ -172,12 +172,12 @@ turn_quiet intake plan peers all turn was left counted now_counted old new befor
 turns_later : (intake : Intake) (plan : PlanView) (peers : List ℕ) (turns : List TurnView) (left : Option Parcel) (received : ℕ)
     (old new : Noted) (first now : Passed) → MakesAllTurns intake plan peers turns left received old new first now
     → IsLater old new
-turns_later intake plan peers [] left received old new first now run = subst (IsLater old) (sym run.2) (later_same old)
+turns_later intake plan peers [] left received old new first now run = subst (IsLater old) (sym run.same) (later_same old)
 turns_later intake plan peers (turn ∷ earlier) left received old new first now run =
-    let makes = run.7 in
-    let rest = turn_quiet intake plan peers run.3 turn run.1 left run.2 received run.0 new run.4 now 0 makes in
-    later_on old run.0 new (turns_later intake plan peers earlier run.1 run.2 old run.0 first run.4 run.5)
-    (later_on run.0 makes.taken new (takes_later plan turn makes.takes.arrivals run.0 makes.taken makes.takes.taken)
+    let makes = run.makes in
+    let rest = turn_quiet intake plan peers run.all turn run.was left run.counted received run.mid new run.between now 0 makes in
+    later_on old run.mid new (turns_later intake plan peers earlier run.was run.counted old run.mid first run.between run.before)
+    (later_on run.mid makes.taken new (takes_later plan turn makes.takes.arrivals run.mid makes.taken makes.takes.taken)
     (rest.notes, rest.noted))
 
 module _ (spans : (octets : List ℕ) (peer : ℕ) (steps : List Made) (before after : List PeerView)
@@ -233,25 +233,25 @@ module _ (spans : (octets : List ℕ) (peer : ℕ) (steps : List Made) (before a
       (before after : List PeerView) → new.made ≡ old.made ++ trail → Follow trail before after
       → TurnsOrder plan place (arrivals_of intake plan peers turns left received old new first now run) old (media_at place trail)
   turns_order intake peers [] left received old new first now run trail before after noted follow =
-      ap (media_at place) (none_noted old.made trail (sym (ap (λ (n : Noted). n.made) run.2) ∙ noted))
+      ap (media_at place) (none_noted old.made trail (sym (ap (λ (n : Noted). n.made) run.same) ∙ noted))
   turns_order intake peers (turn ∷ earlier) left received old new first now run trail before after noted follow =
-      let makes = run.7 in
-      let sooner = turns_later intake plan peers earlier run.1 run.2 old run.0 first run.4 run.5 in
-      let own = takes_later plan turn makes.takes.arrivals run.0 makes.taken makes.takes.taken in
-      let rest = turn_quiet intake plan peers run.3 turn run.1 left run.2 received run.0 new run.4 now place makes in
-      let turned : new.made ≡ run.0.made ++ (own.0 ++ rest.notes) =
-      rest.noted ∙ ap (λ (m : List Made). m ++ rest.notes) own.1 ∙ append_assoc run.0.made own.0 rest.notes in
+      let makes = run.makes in
+      let sooner = turns_later intake plan peers earlier run.was run.counted old run.mid first run.between run.before in
+      let own = takes_later plan turn makes.takes.arrivals run.mid makes.taken makes.takes.taken in
+      let rest = turn_quiet intake plan peers run.all turn run.was left run.counted received run.mid new run.between now place makes in
+      let turned : new.made ≡ run.mid.made ++ (own.0 ++ rest.notes) =
+      rest.noted ∙ ap (λ (m : List Made). m ++ rest.notes) own.1 ∙ append_assoc run.mid.made own.0 rest.notes in
       let whole : trail ≡ sooner.0 ++ (own.0 ++ rest.notes) =
-      parts old run.0 new trail sooner.0 (own.0 ++ rest.notes) noted sooner.1 turned in
+      parts old run.mid new trail sooner.0 (own.0 ++ rest.notes) noted sooner.1 turned in
       let split = both sooner.0 (own.0 ++ rest.notes) before after (subst
       (λ (t : List Made). Follow t before after) whole follow) in
       let again = both own.0 rest.notes split.mid after split.second in (
-        run.0,
+        run.mid,
         makes.taken,
         media_at place sooner.0,
         media_at place own.0,
-        turns_order intake peers earlier run.1 run.2 old run.0 first run.4 run.5 sooner.0 before split.mid sooner.1 split.first,
-        all_order turn makes.takes.arrivals run.0 makes.taken own.0 split.mid again.mid makes.takes.taken own.1 again.first,
+        turns_order intake peers earlier run.was run.counted old run.mid first run.between run.before sooner.0 before split.mid sooner.1 split.first,
+        all_order turn makes.takes.arrivals run.mid makes.taken own.0 split.mid again.mid makes.takes.taken own.1 again.first,
         ap (media_at place) whole ∙ media_both place sooner.0 (own.0 ++ rest.notes)
             ∙ ap (λ (l : List OrderedMedia). media_at place sooner.0 ++ l) (media_both place own.0 rest.notes
             ∙ ap (λ (l : List OrderedMedia). media_at place own.0 ++ l) rest.none ∙ append-nil (media_at place own.0)),

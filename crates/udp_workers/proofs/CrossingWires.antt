@@ -215,17 +215,17 @@ module _ (plan : PlanView) where
       (first now : Passed) → MakesAllTurns intake plan peers turns left received old new first now
       → Hands old new first.went now.went
   turns_hand intake peers [] left received old new first now run =
-      hands_same old new first.went now.went run.2 (ap (λ (p : Passed). p.went) run.3)
+      hands_same old new first.went now.went run.same (ap (λ (p : Passed). p.went) run.passed_nothing)
   turns_hand intake peers (turn ∷ earlier) left received old new first now run =
-      let makes = run.7 in
-      let between : List Parcel = run.4.went in
-      hands_then old run.0 new first.went between now.went
-      (turns_hand intake peers earlier run.1 run.2 old run.0 first run.4 run.5)
-      (hands_then run.0 makes.taken new between between now.went
-      (takes_none turn makes.takes.arrivals run.0 makes.taken between makes.takes.taken)
+      let makes = run.makes in
+      let between : List Parcel = run.between.went in
+      hands_then old run.mid new first.went between now.went
+      (turns_hand intake peers earlier run.was run.counted old run.mid first run.between run.before)
+      (hands_then run.mid makes.taken new between between now.went
+      (takes_none turn makes.takes.arrivals run.mid makes.taken between makes.takes.taken)
       (hands_then makes.taken makes.ticked new between between now.went
-      (ticks_none turn.now run.3 peers makes.taken makes.ticked between makes.ticks)
-      (empties_hand run.3 peers makes.ticked new between now.went makes.empties)))
+      (ticks_none turn.now run.all peers makes.taken makes.ticked between makes.ticks)
+      (empties_hand run.all peers makes.ticked new between now.went makes.empties)))
 
   pub run_hands : (intake : Intake) (peers : List ℕ) (turns : List TurnView) (left : Option Parcel) (received : ℕ)
       (old new : Noted)

@@ -8,12 +8,15 @@ use Rattle.std.specs.List.{flat_map}
 use Rattle.std.specs.Prelude.{◌++◌, sum_by, IsSome, OnErr, is_err, option_map, option_to_list}
 use Rattle.std.proofs.Common.{append_assoc, append-nil}
 use Rattle.iax_frames.specs.TrunkFrame.{TrunkEntry, TrunkFrame, SpellsTrunk, entry, entry_head, entry_item, trunk_head}
+use Rattle.exchange_core.specs.declared.watch.Event.{Event}
 use Rattle.step_log.specs.Notes.{Noted}
 use Rattle.peer_plan.specs.Plan.{PlanView}
 use Rattle.peer_plan.specs.declared.endpoint.Endpoint.{Endpoint}
 use Rattle.udp_wires.specs.Parcels.{Parcel}
-use Rattle.udp_workers.specs.Intake.{BeginsWith, Fills, IsLoaded, IsTaken, IsWithin, Leaves, TakesAll, TakesIn, TakesWhatCame}
+use Rattle.udp_workers.specs.Intake.{BeginsWith, Fills, IsLoaded, IsTaken, IsWithin, Leaves, TakesAll, TakesWhatCame}
 use Rattle.udp_workers.specs.Intake.{TurnView, Weigh, fits, in_order, media_octets, no_weight, plus, with_weight}
+use Rattle.udp_workers.specs.Receipts.{Reports}
+use Rattle.udp_workers.specs.Runs.{ReportsAll, TakesAndReports}
 use Rattle.udp_workers.specs.declared.intake.Intake.{Intake}
 use Rattle.udp_workers.specs.declared.intake.Intake.TheVariants.{Whole, Bounded}
 use Rattle.udp_workers.specs.declared.intake.Weight.{Weight}
@@ -82,7 +85,7 @@ IsLoad Bounded (arrival ∷ before) (Some weight) = Weigh (arrival ∷ before) w
 
 -- Datagrams were taken since the turn began, and this is their weight. The datagram that was left to the turn was the first
 -- of them; if there is none, it is still there.
-pub record TakesSoFar (intake : Intake) (plan : PlanView) (turn : TurnView) (was here : Option Parcel) (load : Option Weight)
+pub record TakesSoFar (told : Event → Type 0) (intake : Intake) (plan : PlanView) (turn : TurnView) (was here : Option Parcel) (load : Option Weight)
     (count counted now_counted : ℕ)
     (old new : Noted) (before after : List Parcel) : Type 0 where
   pub arrivals : List Parcel
@@ -91,6 +94,7 @@ pub record TakesSoFar (intake : Intake) (plan : PlanView) (turn : TurnView) (was
   pub first : (arrivals ≡ []) × (here ≡ was) ⊎ BeginsWith was arrivals × (here ≡ None)
   pub loaded : IsLoad intake arrivals load
   pub taken : TakesAll plan turn arrivals old new
+  pub reports : ReportsAll told plan turn arrivals old new taken
   pub what_came : TakesWhatCame was here arrivals before after
 
 -- ---- what the wire gave
@@ -250,9 +254,9 @@ not_there here found is none = sym (ap (option_map (λ (d : Endpoint × Bor (Lis
 
 -- ---- a turn
 
-module _ (intake : Intake) (plan : PlanView) (turn : TurnView) (was : Option Parcel) (counted : ℕ) (old : Noted)
+module _ (told : Event → Type 0) (intake : Intake) (plan : PlanView) (turn : TurnView) (was : Option Parcel) (counted : ℕ) (old : Noted)
     (came : List Parcel) where
-  pub takes_none : TakesSoFar intake plan turn was was None 0 counted counted old old came came
+  pub takes_none : TakesSoFar told intake plan turn was was None 0 counted counted old old came came
   takes_none = record {
     arrivals = [];
     counts = refl;
@@ -260,20 +264,22 @@ module _ (intake : Intake) (plan : PlanView) (turn : TurnView) (was : Option Par
     first = inl (refl, refl);
     loaded = load_none intake;
     taken = refl;
+    reports = tt;
     what_came = what_came_none was came;
   }
 
   -- a datagram more
   pub takes_one : (here : Option Parcel) (load : Option Weight) (next : Weight) (arrival : Parcel) (count before after : ℕ)
       (mid new : Noted) (seen now : List Parcel)
-      → TakesSoFar intake plan turn was here load count counted before old mid came seen
+      → TakesSoFar told intake plan turn was here load count counted before old mid came seen
       → Fills here (Some arrival) seen now
       → (IsSome here → Some arrival ≡ here)
       → IsLoaded intake load arrival.octets (Some next)
       → IsTaken plan turn arrival mid new
+      → Reports told plan turn.stage turn.now arrival mid new
       → after ≡ before + 1
-      → TakesSoFar intake plan turn was None (Some next) (count + 1) counted after old new came now
-  takes_one here load next arrival count before after mid new seen now so_far fills kept loaded is one = record {
+      → TakesSoFar told intake plan turn was None (Some next) (count + 1) counted after old new came now
+  takes_one here load next arrival count before after mid new seen now so_far fills kept loaded is reported one = record {
     arrivals = arrival ∷ so_far.arrivals;
     counts = let n = so_far.counts in omega arith;
     received = let n = so_far.received in omega arith;
@@ -287,65 +293,75 @@ module _ (intake : Intake) (plan : PlanView) (turn : TurnView) (was : Option Par
     );
     loaded = load_more intake so_far.arrivals load arrival next so_far.loaded loaded;
     taken = (mid, so_far.taken, is);
+    reports = (so_far.reports, reported);
     what_came = what_came_taken was arrival so_far.arrivals came now (what_came_more was here (Some arrival) so_far.arrivals came
         seen now so_far.what_came fills);
   }
 
   -- no datagram is there, or the call of the wire failed
   pub takes_no_more : (here : Option Parcel) (load : Option Weight) (count after : ℕ) (new : Noted) (seen now : List Parcel)
-      → TakesSoFar intake plan turn was here load count counted after old new came seen
+      → TakesSoFar told intake plan turn was here load count counted after old new came seen
       → Fills here None seen now
       → (IsSome here → None ≡ here)
       → count ≤ 64
-      → TakesIn intake plan turn was None counted after old new came now
+      → TakesAndReports told intake plan turn was None counted after old new came now
   takes_no_more here load count after new seen now so_far fills kept few = record {
-    arrivals = so_far.arrivals;
-    received = so_far.received;
-    first = elim so_far.first [
-      | inl empty ↦ begins_none was here so_far.arrivals empty.1 kept
-      | inr begun ↦ begun.0
-    ];
-    within = within_load intake so_far.arrivals load so_far.loaded (let n = so_far.counts in omega arith);
-    leaves = leaves_none intake so_far.arrivals;
-    taken = so_far.taken;
-    what_came = what_came_more was here None so_far.arrivals came seen now so_far.what_came fills;
+    takes = record {
+      arrivals = so_far.arrivals;
+      received = so_far.received;
+      first = elim so_far.first [
+        | inl empty ↦ begins_none was here so_far.arrivals empty.1 kept
+        | inr begun ↦ begun.0
+      ];
+      within = within_load intake so_far.arrivals load so_far.loaded (let n = so_far.counts in omega arith);
+      leaves = leaves_none intake so_far.arrivals;
+      taken = so_far.taken;
+      what_came = what_came_more was here None so_far.arrivals came seen now so_far.what_came fills;
+    };
+    reports = so_far.reports;
   }
 
   -- one doesn't fit any more
   pub takes_what_fits : (here : Option Parcel) (load : Option Weight) (arrival : Parcel) (count after : ℕ) (new : Noted)
       (seen now : List Parcel)
-      → TakesSoFar intake plan turn was here load count counted after old new came seen
+      → TakesSoFar told intake plan turn was here load count counted after old new came seen
       → Fills here (Some arrival) seen now
       → IsLoaded intake load arrival.octets None
       → count ≤ 64
-      → TakesIn intake plan turn was (Some arrival) counted after old new came now
+      → TakesAndReports told intake plan turn was (Some arrival) counted after old new came now
   takes_what_fits here load arrival count after new seen now so_far fills loaded few = record {
-    arrivals = so_far.arrivals;
-    received = so_far.received;
-    first = elim so_far.first [
-      | inl empty ↦ absurd (some_taken intake so_far.arrivals load arrival.octets so_far.loaded loaded empty.0)
-      | inr begun ↦ begun.0
-    ];
-    within = within_load intake so_far.arrivals load so_far.loaded (let n = so_far.counts in omega arith);
-    leaves = left_out intake so_far.arrivals load arrival so_far.loaded loaded;
-    taken = so_far.taken;
-    what_came = what_came_more was here (Some arrival) so_far.arrivals came seen now so_far.what_came fills;
+    takes = record {
+      arrivals = so_far.arrivals;
+      received = so_far.received;
+      first = elim so_far.first [
+        | inl empty ↦ absurd (some_taken intake so_far.arrivals load arrival.octets so_far.loaded loaded empty.0)
+        | inr begun ↦ begun.0
+      ];
+      within = within_load intake so_far.arrivals load so_far.loaded (let n = so_far.counts in omega arith);
+      leaves = left_out intake so_far.arrivals load arrival so_far.loaded loaded;
+      taken = so_far.taken;
+      what_came = what_came_more was here (Some arrival) so_far.arrivals came seen now so_far.what_came fills;
+    };
+    reports = so_far.reports;
   }
 
   -- 64 were taken
   pub takes_64 : (here : Option Parcel) (load : Option Weight) (after : ℕ) (new : Noted) (now : List Parcel)
-      → TakesSoFar intake plan turn was here load 64 counted after old new came now
-      → TakesIn intake plan turn was here counted after old new came now
+      → TakesSoFar told intake plan turn was here load 64 counted after old new came now
+      → TakesAndReports told intake plan turn was here counted after old new came now
   takes_64 here load after new now so_far =
       elim so_far.first [
         | inl empty ↦ absurd (let n = so_far.counts in let none = ap length empty.0 in omega arith)
-        | inr begun ↦ subst (λ left. TakesIn intake plan turn was left counted after old new came now) (sym begun.1) (record {
-          arrivals = so_far.arrivals;
-          received = so_far.received;
-          first = begun.0;
-          within = within_load intake so_far.arrivals load so_far.loaded (let n = so_far.counts in omega arith);
-          leaves = leaves_none intake so_far.arrivals;
-          taken = so_far.taken;
-          what_came = subst (λ left. TakesWhatCame was left so_far.arrivals came now) begun.1 so_far.what_came;
+        | inr begun ↦ subst (λ left. TakesAndReports told intake plan turn was left counted after old new came now) (sym begun.1) (record {
+          takes = record {
+            arrivals = so_far.arrivals;
+            received = so_far.received;
+            first = begun.0;
+            within = within_load intake so_far.arrivals load so_far.loaded (let n = so_far.counts in omega arith);
+            leaves = leaves_none intake so_far.arrivals;
+            taken = so_far.taken;
+            what_came = subst (λ left. TakesWhatCame was left so_far.arrivals came now) begun.1 so_far.what_came;
+          };
+          reports = so_far.reports;
         })
       ]

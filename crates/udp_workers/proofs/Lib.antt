@@ -8,6 +8,7 @@ pub mod EventLaws
 pub mod HandingLaws
 pub mod EmptyingLaws
 pub mod IntakeLaws
+pub mod ReceiptLaws
 pub mod StepRoom
 pub mod RoomLaws
 pub mod TurnRoom

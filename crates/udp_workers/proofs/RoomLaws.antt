@@ -64,9 +64,9 @@ spelled_full call handed need reply (mades.Reserve peer answer) name is opens = 
 spelled_full call handed need reply (mades.Bridge one other answer) name is opens = let same = is.0 in cc
 spelled_full call handed need reply (mades.Partner other answer) name is opens = let same = is.0 in cc
 spelled_full call handed need reply (mades.Release other answer) name is opens = let same = is.0 in cc
-spelled_full call handed need reply (mades.TakeOut peer out) name is opens = absurd is
 spelled_full call handed need reply mades.Unasked name is opens =
     absurd (subst (λ (n : Need). IsUnasked call (offer_in handed) n reply) opens is)
+spelled_full call handed need reply step name is opens = absurd is
 
 -- so is one that is rejected
 spelled_rejected : (call : Call) (handed : Option HandedUp) (need : Need) (reply : Reply) (step : Made) (at_peer : ℕ)
@@ -87,9 +87,9 @@ spelled_rejected call handed need reply (mades.Reserve peer answer) at_peer is r
 spelled_rejected call handed need reply (mades.Bridge one other answer) at_peer is rejects = let same = is.0 in cc
 spelled_rejected call handed need reply (mades.Partner other answer) at_peer is rejects = let same = is.0 in cc
 spelled_rejected call handed need reply (mades.Release other answer) at_peer is rejects = let same = is.0 in cc
-spelled_rejected call handed need reply (mades.TakeOut peer out) at_peer is rejects = absurd is
 spelled_rejected call handed need reply mades.Unasked at_peer is rejects =
     absurd (subst (λ (n : Need). IsUnasked call (offer_in handed) n reply) rejects is)
+spelled_rejected call handed need reply step at_peer is rejects = absurd is
 
 -- a full frame weighs four at least
 four : (b : Bool) → 4 ≤ cond b 128 4
@@ -318,10 +318,10 @@ module _ (steps_few : (work : Work) (reply : Reply) → OpensFew reply → datag
       first_is peer trace.0 _ trace.2 trace.3.0 in cc
   call_few call peer place weight (mades.Release name answer ∷ rest) to old new follow trace weighs sound = let same =
       first_is peer trace.0 _ trace.2 trace.3.0 in cc
-  call_few call peer place weight (mades.TakeOut p out ∷ rest) to old new follow trace weighs sound = absurd trace.3
   call_few call peer place weight (mades.Unasked ∷ rest) to old new follow trace weighs sound =
       let same : needs.Datagram peer ≡ trace.0 = cc in
       absurd (subst (λ (n : Need). IsUnasked call (offer_in None) n trace.1) (sym same) trace.3)
+  call_few call peer place weight (step ∷ rest) to old new follow trace weighs sound = absurd trace.3
 
   pub heard_few : (plan : PlanView) (from : Endpoint) (call : Call) (weight : Weight) (old new : Noted) (trail : List Made)
       (before after : List PeerView)

@@ -16,6 +16,8 @@ use Rattle.udp_workers.specs.contracts.seat.SeatState as place
 use Rattle.udp_workers.specs.contracts.seat.Seat as seat
 use Rattle.udp_workers.specs.contracts.seat.WatchedExchange as watched
 use Rattle.udp_workers.specs.declared.seat.PlanBrand as post
+use Rattle.udp_workers.specs.declared.sources.Challenges as challenges
+use Rattle.udp_workers.specs.declared.sources.TurnClock as clock
 use Rattle.exchange_core.specs.declared.watch.Watch as watch
 
 module _ (J P O S : RattleType) (n : ledger_set.Ghosts J.Denot O.Denot S.Denot) (p : post.Ghosts P.Denot)
@@ -25,23 +27,25 @@ module _ (J P O S : RattleType) (n : ledger_set.Ghosts J.Denot O.Denot S.Denot) 
       → IsSync (watched.the_row t V G J P O S v n p o s)
   watched_sync t V G v of_v of_g = search (exchange_sync, sendable, crosses) parts 8 depth 40 fits 50000
 
-  place_send : (W M C B : RattleType) (w : wire.Ghosts W.Denot) → IsSend W → IsSend M → IsSend C → IsSend B
-      → IsSend (place.the_row W M C B J P O S w n p o s)
-  place_send W M C B w of_w of_m of_c of_b = search (pass_send, sendable, crosses) parts 8 depth 40 fits 50000
+  place_send : (W M C B : RattleType) (w : wire.Ghosts W.Denot) (m : clock.Ghosts M.Denot) (h : challenges.Ghosts C.Denot)
+      → IsSend W → IsSend M → IsSend C → IsSend B
+      → IsSend (place.the_row W M C B J P O S w m h n p o s)
+  place_send W M C B w m h of_w of_m of_c of_b = search (pass_send, sendable, crosses) parts 8 depth 40 fits 50000
 
-  seat_sync : (W M C B : RattleType) (w : wire.Ghosts W.Denot) → IsSend W → IsSend M → IsSend C → IsSend B
-      → IsSync (seat.the_row W M C B J P O S w n p o s)
-  seat_sync W M C B w of_w of_m of_c of_b = search (place_send, sendable, crosses) parts 8 depth 40 fits 50000
+  seat_sync : (W M C B : RattleType) (w : wire.Ghosts W.Denot) (m : clock.Ghosts M.Denot) (h : challenges.Ghosts C.Denot)
+      → IsSend W → IsSend M → IsSend C → IsSend B
+      → IsSync (seat.the_row W M C B J P O S w m h n p o s)
+  seat_sync W M C B w m h of_w of_m of_c of_b = search (place_send, sendable, crosses) parts 8 depth 40 fits 50000
 
   -- the closure of a seat's thread, by the name of its type: it has the seat, the handle of the system and the service
   pub lent_send : (name : Sym) (a b c d : NamedLft) (V G W M C B R : RattleType) (v : watch.Ghosts V.Denot)
-      (w : wire.Ghosts W.Denot) → IsSync V → IsSync G → IsSend W → IsSend M → IsSend C → IsSend B → IsSync R
-      → IsSend (TupleAt name (ShrRef a.mir a.lft (seat.the_row W M C B J P O S w n p o s) ∷ ShrRef b.mir b.lft R
+      (w : wire.Ghosts W.Denot) (m : clock.Ghosts M.Denot) (h : challenges.Ghosts C.Denot) → IsSync V → IsSync G → IsSend W → IsSend M → IsSend C → IsSend B → IsSync R
+      → IsSend (TupleAt name (ShrRef a.mir a.lft (seat.the_row W M C B J P O S w m h n p o s) ∷ ShrRef b.mir b.lft R
       ∷ ShrRef c.mir c.lft (watched.the_row d V G J P O S v n p o s) ∷ []))
-  lent_send name a b c d V G W M C B R v w of_v of_g of_w of_m of_c of_b of_r =
-      let taken : RattleType = seat.the_row W M C B J P O S w n p o s in
+  lent_send name a b c d V G W M C B R v w m h of_v of_g of_w of_m of_c of_b of_r =
+      let taken : RattleType = seat.the_row W M C B J P O S w m h n p o s in
       let service : RattleType = watched.the_row d V G J P O S v n p o s in
       declared_send (type_at name (ShrRef a.mir a.lft taken ∷ ShrRef b.mir b.lft R ∷ ShrRef c.mir c.lft service ∷ [])) (
-        shr_send a.mir a.lft taken (seat_sync W M C B w of_w of_m of_c of_b),
+        shr_send a.mir a.lft taken (seat_sync W M C B w m h of_w of_m of_c of_b),
         (shr_send b.mir b.lft R of_r, (shr_send c.mir c.lft service (watched_sync d V G v of_v of_g), tt)),
       )

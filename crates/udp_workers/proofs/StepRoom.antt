@@ -88,7 +88,7 @@ unasked_few call handed (needs.Order name command) reply is = as_is no_load _ (n
     (idle _ _ tt refl)
 unasked_few call handed (needs.Look peer number) reply is = as_is no_load _ (needs.Look peer number) reply _ refl is.0
     (idle _ _ tt refl)
-unasked_few call handed (needs.Retire name) reply is = as_is no_load _ (needs.Retire name) reply _ refl is (idle _ _ tt refl)
+unasked_few call handed (needs.Retire name) reply is = as_is no_load _ (needs.Retire name) reply _ refl is.0 (idle _ _ tt refl)
 unasked_few call handed (needs.Route name) (replies.Route route) is = idle _ _ tt refl
 unasked_few call handed (needs.Route name) reply is = absurd is
 unasked_few call handed need reply is = absurd is
@@ -153,7 +153,8 @@ module _ (opening : (peer : PeerView) (name : LegName) (frame : FullFrame) (now 
       as_is _ need (needs.Retire name) reply (replies.Retire false) is.0 is.1
       (record { few = at_most place peer no_load 0 (omega arith); opens = tt; brings = refl })
   made_few call handed need reply (mades.Look peer number answer) place old new leads is later =
-      as_is _ need (needs.Look peer number) reply (replies.Look answer) is.0 is.1 (idle _ _ tt refl)
+      as_is _ need (needs.Look peer number) reply (replies.Look answer) is.0 is.1
+      (record { few = at_most place peer no_load 0 (omega arith); opens = tt; brings = refl })
   made_few call handed need reply (mades.Reserve peer answer) place old new leads is later =
       as_is _ need (needs.Reserve peer) reply (replies.Reserve answer) is.0 is.1 (idle _ _ tt refl)
   made_few call handed need reply (mades.Bridge one other answer) place old new leads is later =
@@ -162,5 +163,5 @@ module _ (opening : (peer : PeerView) (name : LegName) (frame : FullFrame) (now 
       as_is _ need (needs.Partner name) reply (replies.Partner answer) is.0 is.1 (idle _ _ tt refl)
   made_few call handed need reply (mades.Release name answer) place old new leads is later =
       as_is _ need (needs.Release name) reply (replies.Release answer) is.0 is.1 (idle _ _ tt refl)
-  made_few call handed need reply (mades.TakeOut peer out) place old new leads is later = absurd is
   made_few call handed need reply mades.Unasked place old new leads is later = unasked_few call handed need reply is
+  made_few call handed need reply step place old new leads is later = absurd is

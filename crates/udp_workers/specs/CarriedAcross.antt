@@ -1,14 +1,17 @@
 -- Media crosses only its own call, from datagram to datagram ("Mini Frames", "Meta Frames").
-use Rattle.std.specs.Prelude.{ℕ, ◌≡◌, ◌⊎◌, ◌≤◌, ◌==◌, List, [], ◌∷◌, ◌++◌, Contains, Option, Some, length, option_map, slice_get}
-use Rattle.std.specs.Prelude.{slice_range, if◌then◌else◌}
+use Rattle.std.specs.Prelude.{ℕ, ◌≡◌, ◌⊎◌, ◌≤◌, ◌==◌, List, [], ◌∷◌, ◌++◌, Contains, Option, Some, Ok, length, option_map}
+use Rattle.std.specs.Prelude.{slice_get, slice_range, if◌then◌else◌}
 use Rattle.std.specs.List.{AllByRecursion}
 use Rattle.call_book.specs.declared.leg_name.LegName.{LegName}
 use Rattle.call_signals.specs.declared.signal.MediaSpan.{MediaSpan}
+use Rattle.call_signals.specs.declared.signal.Signal.TheVariants as signals
 use Rattle.step_log.specs.Notes.{Noted}
 use Rattle.step_log.specs.Trails.{CarriesTrail, OrderedMedia, media_at, taken_at}
 use Rattle.step_log.specs.declared.made.Made.{Made}
 use Rattle.step_log.specs.declared.made.Made.TheVariants as mades
+use Rattle.peer_lock.specs.HandedUp.{HandedUp}
 use Rattle.peer_lock.specs.Peer.{PeerView}
+use Rattle.peer_lock.specs.declared.steps.Step.{Step}
 use Rattle.peer_plan.specs.Plan.{PlanView}
 use Rattle.udp_wires.specs.Parcels.{Parcel}
 use Rattle.udp_workers.specs.Intake.{MakesAllTurns, Passed, TurnView}
@@ -17,10 +20,20 @@ use Rattle.udp_workers.specs.declared.intake.Intake.{Intake}
 
 -- ---- one datagram
 
--- The media is just this span of the octets of a datagram, which begins at a place or behind it. The notes name the leg that was
--- ordered to send it as another leg's partner.
+-- the notes have the step of a datagram with these octets, in which this leg handed up this span
+pub record HandsUp (notes : List Made) (octets : List ℕ) (leg : LegName) (span : MediaSpan) : Type 0 where
+  pub peer : ℕ
+  pub now : ℕ
+  pub step : Step
+  pub onwards : HandedUp
+  pub noted : Contains notes (mades.Datagram peer octets now (Ok step) onwards)
+  pub signal : Contains onwards.signals (leg, signals.Media span)
+
+-- The media is just this span of the octets of a datagram, which begins at a place or behind it. A leg handed the span up in
+-- the step of that datagram. The notes name the leg that was ordered to send the media as that leg's partner.
 pub record IsSpan (notes : List Made) (octets : List ℕ) (at : ℕ) (ordered : OrderedMedia) (span : MediaSpan) : Type 0 where
   pub leg : LegName
+  pub handed : HandsUp notes octets leg span
   pub partner : Contains notes (mades.Partner leg (Some ordered.name))
   pub behind : at ≤ span.start
   pub forward : span.start ≤ span.end
@@ -69,7 +82,8 @@ abbrev pub arrivals_of : (intake : Intake) (plan : PlanView) (peers : List ℕ) 
     MakesAllTurns intake plan peers turns left received old new first now → List (List Parcel)
 arrivals_of intake plan peers [] left received old new first now run = []
 arrivals_of intake plan peers (turn ∷ earlier) left received old new first now run =
-    run.7.takes.arrivals ∷ arrivals_of intake plan peers earlier run.1 run.2 old run.0 first run.4 run.5
+    run.makes.takes.arrivals ∷
+    arrivals_of intake plan peers earlier run.was run.counted old run.mid first run.between run.before
 
 -- ---- to the wire
 

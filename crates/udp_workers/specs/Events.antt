@@ -12,7 +12,7 @@ nothing = record { received = 0; refused = 0; sent = 0; lost = 0; faults = 0; re
 
 -- one more event is counted
 abbrev pub counted : TurnReport → Event → TurnReport
-counted report (events.Received peer now) = record report { received = report.received + 1 }
+counted report (events.Received peer now is_alive) = record report { received = report.received + 1 }
 counted report (events.Refused peer refusal) = record report { refused = report.refused + 1 }
 counted report (events.Rejected peer reported) = report
 counted report (events.TurnedAway peer) = record report { refused = report.refused + 1 }

@@ -207,21 +207,31 @@ pub record MakesTurn (intake : Intake) (plan : PlanView) (peers : List ℕ) (all
   pub ticks : TicksDue plan turn.now all peers taken ticked
   pub empties : EmptiesDue plan all peers ticked new before.went after.went
 
+-- no turn was made yet
+pub record MakesNone (left : Option Parcel) (received : ℕ) (old new : Noted) (first now : Passed) : Type 0 where
+  pub none_left : left ≡ None
+  pub none_received : received ≡ 0
+  pub same : new ≡ old
+  pub passed_nothing : now ≡ first
+
+-- A turn was made behind these, and ticked all peers if it had to. `Before` says what they left, counted and noted, and what
+-- had passed the wire.
+pub record MakesLast (Before : Option Parcel → ℕ → Noted → Passed → Type 0) (intake : Intake) (plan : PlanView) (peers : List ℕ)
+    (turn : TurnView) (earlier : List TurnView) (left : Option Parcel) (received : ℕ) (new : Noted) (now : Passed) : Type 0 where
+  pub was : Option Parcel
+  pub counted : ℕ
+  pub mid : Noted
+  pub between : Passed
+  pub before : Before was counted mid between
+  pub all : Bool
+  pub must : ticks_all intake (last_moment earlier) turn.now ≡ true → all ≡ true
+  pub makes : MakesTurn intake plan peers all turn was left counted received mid new between now
+
 -- These turns were made one after another, the last of them first, and no others. No datagram was left to the first of
--- them, and the last left the one named here. Each ticked all peers that it had to.
+-- them, and the last left the one named here.
 abbrev pub MakesAllTurns : Intake → PlanView → List ℕ → List TurnView → Option Parcel → ℕ → Noted → Noted → Passed → Passed
     → Type 0
-MakesAllTurns intake plan peers [] left received old new first now =
-    (left ≡ None) × (received ≡ 0) × (new ≡ old) × (now ≡ first)
+MakesAllTurns intake plan peers [] left received old new first now = MakesNone left received old new first now
 MakesAllTurns intake plan peers (turn ∷ earlier) left received old new first now =
-    (mid : Noted) × (was : Option Parcel) × (counted : ℕ) × (all : Bool) × (between : Passed) ×
-    MakesAllTurns intake plan peers earlier was counted old mid first between ×
-    (ticks_all intake (last_moment earlier) turn.now ≡ true → all ≡ true) ×
-    MakesTurn intake plan peers all turn was left counted received mid new between now
-
--- A run: what its wire gave and was given, turn by turn. The datagram that its last turn left is lost.
-pub record RunsTurns (intake : Intake) (plan : PlanView) (peers : List ℕ) (received : ℕ) (old new : Noted)
-    (before after : Passed) : Type 0 where
-  pub turns : List TurnView
-  pub left : Option Parcel
-  pub all : MakesAllTurns intake plan peers turns left received old new before after
+    MakesLast (λ was counted mid between. MakesAllTurns intake plan peers earlier was counted old mid first between) intake plan
+    peers turn earlier left received new now

@@ -4,9 +4,11 @@ pub mod Draining
 pub mod Emptied
 pub mod Events
 pub mod Followed
+pub mod FullFrames
 pub mod Handed
 pub mod Intake
 pub mod Receipts
+pub mod Runs
 pub mod Served
 pub mod Ticked
 pub use Rattle.udp_wires.specs.Counts

@@ -1,21 +1,40 @@
 -- The events that are reported of a received datagram.
-use Rattle.std.specs.Prelude.{◌≡◌, ◌≢◌, ℕ, ◌⊎◌, Option, None, Some, option_map, slice_get, All}
-use Rattle.peer_lock.specs.declared.steps.Rejection.{Rejection}
-use Rattle.peer_plan.specs.Plan.{PlanView}
-use Rattle.peer_plan.specs.declared.endpoint.Endpoint.{Endpoint}
+use Rattle.std.specs.Prelude.{◌≡◌, ◌≢◌, ◌↔◌, ℕ, ◌⊎◌, Bool, IsTrue, List, None, Some, All}
+use Rattle.exchange_core.specs.Denial.{refused_since}
+use Rattle.exchange_core.specs.Rejections.{rejected_since}
+use Rattle.exchange_core.specs.declared.answers.Refusal.{Refusal}
 use Rattle.exchange_core.specs.declared.watch.Event.{Event}
 use Rattle.exchange_core.specs.declared.watch.Event.TheVariants as events
+use Rattle.exchange_core.specs.declared.watch.ServiceStage.{ServiceStage}
+use Rattle.step_log.specs.Notes.{Noted}
+use Rattle.peer_lock.specs.declared.steps.Rejection.{Rejection}
+use Rattle.peer_plan.specs.Plan.{PlanView}
+use Rattle.udp_wires.specs.Parcels.{Parcel}
+use Rattle.udp_workers.specs.Draining.{IsTurnedAway}
+use Rattle.udp_workers.specs.FullFrames.{IsIax, SpellsKind}
+use Rattle.udp_workers.specs.Served.{endpoint_at}
 
--- it came from an endpoint: it is reported as a stranger's, or as one of the peer with this endpoint, with its moment
-abbrev pub TellsReceipt : (Event → Type 0) → PlanView → Endpoint → ℕ → Type 0
-TellsReceipt told plan from now =
-    (All (λ peer. peer.endpoint ≢ from) plan.peers × told (events.Stranger from))
-    ⊎ ((peer : ℕ) × (option_map (λ peer. peer.endpoint) (slice_get plan.peers peer) ≡ Some from) ×
-    told (events.Received peer now))
+-- the octets spell a full frame of type IAX
+abbrev pub SpellsIax : List ℕ → Type 0
+SpellsIax octets = SpellsKind IsIax octets
 
--- a rejection is reported of the peer with this endpoint
-abbrev pub TellsRejection : (Event → Type 0) → PlanView → Endpoint → Option Rejection → Type 0
-TellsRejection told plan from None = Unit {0}
-TellsRejection told plan from (Some reported) =
-    (peer : ℕ) × (option_map (λ peer. peer.endpoint) (slice_get plan.peers peer) ≡ Some from) ×
-    told (events.Rejected peer reported)
+-- a datagram is a sign of life: its steps have no refusal, or its octets spell a full frame of type IAX
+abbrev pub IsSignOfLife : List ℕ → Noted → Noted → Type 0
+IsSignOfLife octets old new = (refused_since old new ≡ None) ⊎ SpellsIax octets
+
+-- What is reported of a datagram of a peer, at a moment: its receipt, with whether it is a sign of life. Then that it is turned
+-- away, or the refusal or the rejection that its steps gave. All of that is reported of this peer.
+pub record ReportsOf (told : Event → Type 0) (peer : ℕ) (stage : ServiceStage) (now : ℕ) (octets : List ℕ) (old new : Noted)
+    : Type 0 where
+  pub is_alive : Bool
+  pub sign : IsTrue is_alive ↔ IsSignOfLife octets old new
+  pub received : told (events.Received peer now is_alive)
+  pub away : IsTurnedAway stage octets → told (events.TurnedAway peer)
+  pub refused : (refusal : Refusal) → refused_since old new ≡ Some refusal → told (events.Refused peer refusal)
+  pub rejected : (rejection : Rejection) → rejected_since old new ≡ Some rejection → told (events.Rejected peer rejection)
+
+-- of a datagram from an endpoint: that a stranger sent it, or what is reported of the peer with this endpoint
+abbrev pub Reports : (Event → Type 0) → PlanView → ServiceStage → ℕ → Parcel → Noted → Noted → Type 0
+Reports told plan stage now arrival old new =
+    (All (λ peer. peer.endpoint ≢ arrival.endpoint) plan.peers × told (events.Stranger arrival.endpoint))
+    ⊎ ((peer : ℕ) × (endpoint_at plan peer ≡ Some arrival.endpoint) × ReportsOf told peer stage now arrival.octets old new)

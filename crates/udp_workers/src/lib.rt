@@ -11,6 +11,7 @@ mod run_context;
 mod running;
 mod seat;
 mod sending;
+mod sign_of_life;
 mod sources;
 mod tally;
 mod threads;

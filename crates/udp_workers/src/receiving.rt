@@ -1,20 +1,21 @@
 //! Receives datagrams.
-ghost use Rattle.std.specs.Prelude.{◌≡◌, ◌≢◌, ◌+◌, ◌<◌, ◌≤◌, ◌⊎◌, All, IfNone, IfSome, IsTrue, Some};
+ghost use Rattle.std.specs.Prelude.{◌≡◌, ◌≢◌, ◌+◌, ◌<◌, ◌≤◌, ◌⊎◌, All, IfNone, IfSome, Some};
 ghost use Rattle.std.specs.Prelude.{length, option_map, slice_get};
-ghost use Rattle.exchange_core.specs.Rejections.{rejected_since};
 ghost use Rattle.exchange_core.specs.Traces.{IsHeard, moment};
 ghost use Rattle.peer_plan.specs.declared.endpoint.Endpoint.{Endpoint};
 ghost use Rattle.udp_wires.specs.Counts.{RiseAlike};
 ghost use Rattle.udp_workers.specs.Draining.{IsTurnedAway};
 ghost use Rattle.udp_workers.specs.Events.{HasRoom};
 ghost use Rattle.udp_workers.specs.Handed.{GivesAll};
-ghost use Rattle.udp_workers.specs.Intake.{TakesIn, waiting};
-ghost use Rattle.udp_workers.specs.Receipts.{TellsReceipt, TellsRejection};
+ghost use Rattle.udp_workers.specs.Intake.{waiting};
+ghost use Rattle.udp_workers.specs.Receipts.{Reports};
+ghost use Rattle.udp_workers.specs.Runs.{TakesAndReports};
 ghost use Rattle.udp_workers.specs.Ticked.{IsLater};
 
 use crate::draining::is_turned_away;
 use crate::inbox::Inbox;
 use crate::intake::loaded;
+use crate::sign_of_life::is_sign_of_life;
 use crate::tally::Tally;
 use crate::turn_observer::TurnObserver;
 use crate::turning::Turn;
@@ -50,14 +51,15 @@ fn hear<V: Watch, O: TurnObserver, G: Gate, J: LedgerSet, R: Wait>(
     ensures lost { tally.new.report.lost ≡ tally.old.report.lost }
     ensures faults { tally.new.report.faults ≡ tally.old.report.faults }
     ensures watch { tally.new.watch ≡ tally.old.watch }
-    ensures told { TellsReceipt (V.told tally.old.watch.now) turn.now.exchange.now from turn.now.time }
+    // What is reported of it, of the peer with the endpoint from which it came.
+    ensures told { Reports (V.told tally.old.watch.now) turn.now.exchange.now turn.now.stage turn.now.time
+        (record { endpoint = from; octets = octets.now }) pass.old pass.new }
     // Unless it is refused, it makes a step.
     ensures steps { pass.old.credit.steps + 1 + tally.old.report.refused ≤ pass.new.credit.steps + tally.new.report.refused }
     ensures later { IsLater pass.old pass.new }
     ensures handed { GivesAll (V.given tally.old.watch.now) pass.old pass.new }
-    // A datagram that makes a step isn't refused. A rejection is reported.
+    // A datagram that makes a step isn't refused.
     ensures taken { pass.old.credit.steps + 1 ≤ pass.new.credit.steps → tally.new.report.refused ≡ tally.old.report.refused }
-    ensures rejected { TellsRejection (V.told tally.old.watch.now) turn.now.exchange.now from (rejected_since pass.old pass.new) }
     // A datagram that is turned away is refused and makes no step. Any other is given to the exchange.
     ensures away { IsTurnedAway turn.now.stage octets.now →
         (pass.new ≡ pass.old) × (tally.new.report.refused ≡ tally.old.report.refused + 1) }
@@ -71,17 +73,24 @@ fn hear<V: Watch, O: TurnObserver, G: Gate, J: LedgerSet, R: Wait>(
         tally.tell(Event::Stranger { from });
         return;
     };
-    tally.tell(Event::Received {
-        peer,
-        now: turn.time,
-    });
     if is_turned_away(turn.stage, octets) {
+        // A NEW is a full frame of type IAX.
+        tally.tell(Event::Received {
+            peer,
+            now: turn.time,
+            is_alive: true,
+        });
         tally.tell(Event::TurnedAway { peer });
         return;
     }
     let answer = turn
         .exchange
         .datagram_of(turn.rt, pass, peer, octets, turn.time, turn.challenge);
+    tally.tell(Event::Received {
+        peer,
+        now: turn.time,
+        is_alive: is_sign_of_life(answer.refused.is_some(), octets),
+    });
     tally.tell_outcome(peer, &answer);
     tally.tell_retired(&answer.retired);
 }
@@ -113,7 +122,7 @@ pub(crate) fn receive_all<W: Wire, V: Watch, O: TurnObserver, G: Gate, J: Ledger
         tally.new.report.refused + tally.old.report.received }
     ensures later { IsLater pass.old pass.new }
     ensures handed { GivesAll (V.given tally.old.watch.now) pass.old pass.new }
-    ensures takes { TakesIn turn.now.intake turn.now.exchange.now
+    ensures takes { TakesAndReports (V.told tally.old.watch.now) turn.now.intake turn.now.exchange.now
         (record { stage = turn.now.stage; now = turn.now.time; challenge = turn.now.challenge.now }) inbox.old.datagram
         inbox.new.datagram
         tally.old.report.received tally.new.report.received pass.old pass.new (W.came wire.old) (W.came wire.new) }

@@ -1,9 +1,10 @@
 //! Runs turns one after another.
-ghost use Rattle.std.specs.Prelude.{◌≡◌, ◌+◌, ◌*◌, ◌^◌, ◌≤◌, ◌||◌, if◌then◌else◌, length, min, option_and_then, slice_get};
+ghost use Rattle.std.specs.Prelude.{⊤, ◌≡◌, ◌+◌, ◌*◌, ◌^◌, ◌≤◌, ◌||◌, if◌then◌else◌, length, min, option_and_then, slice_get};
 ghost use Rattle.udp_wires.specs.Counts.{RisesBy};
 ghost use Rattle.udp_workers.specs.Events.{CountsSends, MakesTurns, Tells, nothing};
 ghost use Rattle.udp_workers.specs.Handed.{GivesAll};
-ghost use Rattle.udp_workers.specs.Intake.{RunsTurns, longest_wait, ticks_all};
+ghost use Rattle.udp_workers.specs.Intake.{longest_wait, ticks_all};
+ghost use Rattle.udp_workers.specs.Runs.{RunsTurns};
 ghost use Rattle.udp_workers.specs.Served.{AreEndpoints, peers_of};
 ghost use Rattle.udp_workers.specs.Ticked.{IsLater};
 
@@ -121,8 +122,9 @@ impl Worker {
         ensures emptied { result.sent + result.lost ≤ 256 * 32 * turns }
         ensures steps { pass.old.credit.steps + result.received ≤ pass.new.credit.steps + result.refused }
         ensures later { IsLater pass.old pass.new }
-        // What the wire gave and was given, turn by turn.
-        ensures intake { RunsTurns Intake.Whole exchange.now self.old.peers result.received pass.old pass.new
+        // What the wire gave and was given, turn by turn, and the clock's moment and the source's challenge of each.
+        ensures intake { RunsTurns (λ _. ⊤) M.gave C.gave moments.old moments.new challenges.old challenges.new Intake.Whole
+            exchange.now self.old.peers result.received pass.old pass.new
             (record { came = W.came wire.old; went = W.went wire.old })
             (record { came = W.came wire.new; went = W.went wire.new }) }
         ensures place { self.new.place ≡ self.old.place }
@@ -206,7 +208,11 @@ impl Worker {
         // For each turn: the datagrams that it took, which are those that the wire gave, whole and in order, within its
         // limit and with the one left by the turn before as the first; then a tick of all its peers, or of each that was
         // due; then what it took out of their outboxes and gave to the wire, whole and in order; and nothing else.
-        ensures intake { RunsTurns intake exchange.now self.old.peers result.received pass.old pass.new
+        // Each datagram is reported of the peer with its sender's endpoint, or as a stranger's. Its receipt is reported, and
+        // that it was turned away, or its refusal or rejection. Each turn has the clock's next moment and the source's next
+        // challenge, and no other was asked for.
+        ensures intake { RunsTurns (V.told watch.now) M.gave C.gave context.entry.moments.now context.exit.0.now
+            context.entry.challenges.now context.exit.1.0.now intake exchange.now self.old.peers result.received pass.old pass.new
             (record { came = W.came wire.old; went = W.went wire.old })
             (record { came = W.came wire.new; went = W.went wire.new }) }
         ensures place { self.new.place ≡ self.old.place }

@@ -22,9 +22,9 @@ pub trait PlanBrand {
 }
 
 impl PlanBrand for Brand {
-    ghost use Rattle.std.specs.Prelude.{[]};
+    ghost use Rattle.std.specs.Prelude.{[], false};
 
-    ghost plan = { record { workers = []; passes = 0; peers = []; routes = [] } };
+    ghost plan = { record { workers = []; passes = 0; peers = []; routes = []; avoids_return = false } };
 }
 
 /// The exchange of that plan, the watch of its workers, the limit on the datagrams of a turn, and the greatest number of
@@ -101,7 +101,7 @@ impl<
 > SeatState<W, M, C, O, J, P> {
     ghost use Rattle.udp_workers.specs.Events.{CountsSends, MakesTurns, Tells, nothing};
     ghost use Rattle.udp_workers.specs.Handed.{GivesAll};
-    ghost use Rattle.udp_workers.specs.Intake.{RunsTurns};
+    ghost use Rattle.udp_workers.specs.Runs.{RunsTurns};
     ghost use Rattle.exchange_core.specs.declared.watch.ServiceStage.TheVariants as ServiceStage;
 
     // Makes a run, whose counts begin with the current ones.
@@ -124,7 +124,8 @@ impl<
             (W.sent self.new.wire) }
         ensures told { ∥ Tells (V.told watch.now) self.new.report ∥₁ }
         ensures handed { GivesAll (V.given watch.now) self.old.pass self.new.pass }
-        ensures intake { RunsTurns intake exchange.now self.old.worker.peers self.new.report.received self.old.pass self.new.pass
+        ensures intake { RunsTurns (V.told watch.now) M.gave C.gave self.old.moments self.new.moments self.old.challenges
+            self.new.challenges intake exchange.now self.old.worker.peers self.new.report.received self.old.pass self.new.pass
             (record { came = W.came self.old.wire; went = W.went self.old.wire })
             (record { came = W.came self.new.wire; went = W.went self.new.wire }) }
     {

@@ -89,6 +89,8 @@ impl<'w, V: Watch, O: TurnObserver> Tally<'w, V, O> {
         requires room { HasRoom 1 self.old.report }
         ensures rejected { IfSome answer.now.rejected (λ rejection.
             V.told self.old.watch.now (events.Rejected peer rejection)) }
+        ensures refused { IfSome answer.now.refused (λ refusal.
+            V.told self.old.watch.now (events.Refused peer refusal)) }
         ensures report { MatchOption answer.now.refused (self.new.report ≡ self.old.report)
             (λ refusal. self.new.report ≡ counted self.old.report (events.Refused peer refusal)) }
         ensures watch { self.new.watch ≡ self.old.watch }

@@ -7,6 +7,7 @@ ghost use Rattle.udp_workers.specs.Emptied.{EmptiesDue};
 ghost use Rattle.udp_workers.specs.Events.{CountsSends, HasRoom, OnlyRetires, nothing};
 ghost use Rattle.udp_workers.specs.Handed.{GivesAll};
 ghost use Rattle.udp_workers.specs.Intake.{MakesTurn};
+ghost use Rattle.udp_workers.specs.Runs.{MakesAndReports};
 ghost use Rattle.udp_workers.specs.Served.{AreEndpoints, peers_of};
 ghost use Rattle.udp_workers.specs.Ticked.{IsLater, Ticks, TicksDue, TicksIfDue, is_due};
 
@@ -151,8 +152,8 @@ impl Worker {
         ensures steps { pass.old.credit.steps + tally.new.report.received + tally.old.report.refused ≤ pass.new.credit.steps +
             tally.new.report.refused + tally.old.report.received }
         ensures handed { GivesAll (V.given tally.old.watch.now) pass.old pass.new }
-        ensures turn { MakesTurn turn.now.intake turn.now.exchange.now self.old.peers turn.now.all
-            (record { stage = turn.now.stage; now = turn.now.time; challenge = turn.now.challenge.now }) inbox.old.datagram
+        ensures turn { MakesAndReports (V.told tally.old.watch.now) turn.now.intake turn.now.exchange.now self.old.peers
+            turn.now.all (record { stage = turn.now.stage; now = turn.now.time; challenge = turn.now.challenge.now }) inbox.old.datagram
             inbox.new.datagram
             tally.old.report.received tally.new.report.received pass.old pass.new
             (record { came = W.came wire.old; went = W.went wire.old })

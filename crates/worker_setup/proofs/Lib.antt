@@ -1,2 +1,4 @@
 pub mod Sending
+mod Draws
 mod ReportLemmas
+mod Skips

@@ -1,3 +1,4 @@
 pub mod ServiceErrors
 pub mod Drawing
+pub mod Skipping
 pub mod Reports

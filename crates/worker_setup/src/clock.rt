@@ -12,6 +12,11 @@ pub struct SinceOpening<'t, R: Clock> {
 }
 
 impl<'t, R: Clock> TurnClock for SinceOpening<'t, R> {
+    ghost use Rattle.std.specs.Prelude.{◌≡◌};
+
+    // It keeps the moment.
+    ghost gave = { λ _ now clock. now ≡ clock.last };
+
     // If the clock can't be read, the moment stays the same.
     fn now(&mut self) -> u64 {
         if let Ok(elapsed) = self.opened.elapsed(self.rt) {

@@ -17,6 +17,12 @@ pub struct Digits {
 }
 
 impl Challenges for Digits {
+    ghost use Rattle.std.specs.Prelude.{MatchOption};
+
+    // It begins with the prefix, if there is one, and otherwise has ten octets.
+    ghost gave = { λ digits challenge _. MatchOption digits.prefix (length challenge ≡ 10)
+        (λ prefix. take (length prefix) challenge ≡ prefix) };
+
     fn draw(&mut self) -> Challenge {
         match &self.prefix {
             Some(prefix) => challenge_behind(prefix, &mut self.generator),

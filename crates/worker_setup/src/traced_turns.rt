@@ -33,14 +33,16 @@ pub fn lane_of<'t>(
 fn note_event(lane: &mut TraceLane<'_>, event: Event) {
     match event {
         Event::TurnedAway { .. } => lane.turn_away(),
+        Event::Refused { refusal, .. } => {
+            if refusal.reserves_nothing() {
+                lane.refuse();
+            }
+        }
         Event::Retired { .. } => lane.retire(),
         Event::Sent { peer } => lane.send(peer, true),
         Event::Lost { peer } => lane.send(peer, false),
-        Event::Received { .. }
-        | Event::Refused { .. }
-        | Event::Rejected { .. }
-        | Event::Stranger { .. }
-        | Event::Fault => {}
+        Event::Received { .. } | Event::Rejected { .. } | Event::Stranger { .. } | Event::Fault =>
+            {}
     }
 }
 

@@ -40,6 +40,9 @@ class Pages(Copy):
         self.assertEqual(len(self.faults(limits.check, "A request has more than 4,097 octets of body.\n")), 1)
         self.assertEqual(len(self.faults(limits.check, "`retry_ms` is 1 to 50,000.\n")), 1)
         self.assertEqual(len(self.faults(limits.check, "A wall has 17 octets.\n")), 1)
+        measured = "<!-- made by pages: walls -->\n| A wall | 17 octets |\n<!-- end -->\n"
+        self.assertEqual(self.faults(limits.check, measured), [])
+        self.assertEqual(len(self.faults(limits.check, measured + "A wall has 17 octets.\n" + measured)), 1)
 
     def test_numbers_without_a_unit(self):
         self.assertEqual(self.faults(limits.check_numbers, "It comes from the number 32,767.\n"), [])

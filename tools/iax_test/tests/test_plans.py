@@ -12,14 +12,14 @@ class Plans(unittest.TestCase):
     """The text of a plan, as TOML reads it."""
 
     def test_whole(self):
-        text = plan_text({"format": 1, "passes": 9, "ping_ms": None}, [("127.0.0.1", 4569)], [WEST, {"name": "east"}], [("3", "east")])
+        text = plan_text({"format": 1, "passes": 9, "ping_ms": None}, [("127.0.0.1", 4569)], [WEST, {"name": "east"}], [("3", "east"), ("", "west", "east")])
         usual = {"address": "127.0.0.1", "formats": ["ulaw"]}
         wanted = {
             "format": 1,
             "passes": 9,
             "worker": [{"address": "127.0.0.1", "port": 4569}],
             "peer": [usual | WEST, usual | {"name": "east", "worker": 0}],
-            "route": [{"prefix": "3", "peer": "east"}],
+            "route": [{"prefix": "3", "peer": "east"}, {"prefix": "", "peer": "west", "source": "east"}],
         }
         self.assertEqual(tomllib.loads(text), wanted)
 

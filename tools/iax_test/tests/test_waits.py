@@ -22,6 +22,24 @@ class Within(unittest.TestCase):
         self.assertLess(time.monotonic() - begun, 5)
 
 
+class Becomes(unittest.TestCase):
+    """A wait for a value."""
+
+    def test_waits_for_it(self):
+        found = iter([[], ["first"], ["first", "second"], []])
+        waits.becomes("lines", lambda: next(found), ["first", "second"], 5)
+        self.assertEqual(next(found), [])
+
+    def test_fails_with_what_was_seen(self):
+        begun = time.monotonic()
+        with self.assertRaisesRegex(waits.Failed, r"^lines: \['another'\], not \['first'\] within 0.1 s$"):
+            waits.becomes("lines", lambda: ["another"], ["first"], 0.1)
+        self.assertLess(time.monotonic() - begun, 5)
+
+    def test_looks_once_though_it_is_late(self):
+        waits.becomes("a number", lambda: 1, 1, -1)
+
+
 class Ports(unittest.TestCase):
     """Ports of loopback."""
 

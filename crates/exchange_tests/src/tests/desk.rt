@@ -86,6 +86,14 @@ impl<R: Wait, G: Gate, J: LedgerSet> Desk<'_, R, G, J> {
         self.exchange.hang_up(self.rt, self.pass, name, now).err()
     }
 
+    /// Sets whether a peer drains.
+    pub fn set_draining(&mut self, peer: u16, drains: bool) {
+        if peer < self.exchange.plan().peer_count() {
+            self.exchange
+                .set_draining(self.rt, self.pass, PeerId::new(peer), drains);
+        }
+    }
+
     /// Takes the oldest datagram for a peer, or returns `None` if none waits.
     pub fn take_out(&mut self, peer: u16) -> Option<Out> {
         if peer >= self.exchange.plan().peer_count() {

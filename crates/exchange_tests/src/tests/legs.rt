@@ -150,6 +150,16 @@ impl Legs {
         true
     }
 
+    /// Returns whether a number of a peer has a leg that it didn't have before.
+    pub fn has_new_of(&self, peer: u16) -> bool {
+        for place in &self.places {
+            if peer_of(place.number) == peer && place.is_new() {
+                return true;
+            }
+        }
+        false
+    }
+
     /// Returns whether only legs that the datagram concerns have changed: for a full frame one, and the one with which it
     /// is bridged.
     pub fn differ_where_concerned(&self, sent: &Sent) -> bool {

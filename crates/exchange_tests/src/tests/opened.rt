@@ -2,15 +2,16 @@
 ghost use Rattle.std.specs.Prelude.{◌≡◌, ◌+◌, length};
 
 use crate::tests::desk::Desk;
+use crate::tests::drains::{Between, Drain, Kept, play_drained};
 use crate::tests::growths::call_and_end;
-use crate::tests::pairs::at_once;
+use crate::tests::pairs::{Pair, at_once};
 use crate::tests::recovery::{Sums, ended};
 use crate::tests::same::holds;
-use crate::tests::storm::storm_and_end;
+use crate::tests::storm::{Drains, storm_and_end};
 use crate::tests::two_peers::Progress;
 use crate::tests::wires::{
-    Burst, Calls, Played, Rejection, Taken, call_first, play_burst, play_call, play_observed,
-    play_waking, turn_on,
+    Burst, Calls, Played, Rejection, Taken, Unaccepted, call_first, play_burst, play_call,
+    play_draining, play_observed, play_waking, turn_on,
 };
 use exchange_core::{Exchange, Gate, NoGate, Pass};
 use media_ledger::Blank;
@@ -21,6 +22,7 @@ use std::marker::Brand;
 use std::net::Net;
 use std::process::Abort;
 use std::sync::Wait;
+use std::sync::atomic::AtomicBool;
 use std::sync::ledger::Ledger;
 use std::thread::Threads;
 use std::time::Clock;
@@ -33,6 +35,8 @@ pub enum Scene {
     CallAndEnd,
     /// A storm of datagrams, then an end to all calls.
     Storm,
+    /// A storm in which peers begin and end to drain.
+    StormWithDrains,
 }
 
 /// The play on an exchange, by hand or by workers, and its result.
@@ -43,12 +47,20 @@ pub enum Play<'a> {
     Tickers,
     /// Two threads tick a peer each, one of them once the other is held.
     TwoTicks(&'a Progress),
+    /// Of two threads the first gives NEWs to the exchange, and the second has the peer drain between two sections of one.
+    DrainBetween(&'a Between),
+    /// Of two threads the first plays a storm, and the second begins and ends drains until the flag says that it is over.
+    StormAndDrains(&'a AtomicBool),
+    /// The only pass plays a call with a drain: the datagrams of the call that went out.
+    Drained(Drain, &'a mut Vec<Kept>),
     /// The only worker of a plan plays a whole call, over a wire that fails at its call of this place; at 0 never.
     WholeCall(u64, &'a mut Option<Played>),
     /// The only worker of a plan is given a burst of trunk frames.
     Burst(Burst, &'a mut Taken),
     /// The only worker of a plan takes two datagrams in a turn that is observed.
     Observed(&'a mut Calls),
+    /// The only worker of a plan takes datagrams while the service drains.
+    Draining(&'a mut Unaccepted),
     /// Media comes to the second worker of a plan for a peer of the first: the number of times that each was woken.
     Waking(&'a mut (u64, u64)),
     /// Each worker of a plan makes one turn: the number of workers that made theirs.
@@ -57,19 +69,20 @@ pub enum Play<'a> {
     CallFor200(&'a mut Option<Rejection>),
 }
 
-fn play_scene<R: Abort + Wait, G: Gate, J: LedgerSet>(
+fn play_scene<R: Abort + Clock + Wait, G: Gate, J: LedgerSet>(
     rt: &R,
     scene: Scene,
     desk: &mut Desk<'_, R, G, J>,
 ) {
     match scene {
         Scene::CallAndEnd => call_and_end(rt, desk),
-        Scene::Storm => storm_and_end(rt, desk),
+        Scene::Storm => storm_and_end(rt, desk, Drains::None),
+        Scene::StormWithDrains => storm_and_end(rt, desk, Drains::Own),
     }
 }
 
 // Plays a scene under the only pass.
-fn play_only<R: Abort + Wait, G: Gate, J: LedgerSet>(
+fn play_only<R: Abort + Clock + Wait, G: Gate, J: LedgerSet>(
     rt: &R,
     scene: Scene,
     exchange: &Exchange<G, J>,
@@ -86,14 +99,14 @@ fn play_pair<R: Abort + Clock + Sync + Threads + Wait, G: Gate + Sync, J: Ledger
     rt: &R,
     exchange: &Exchange<G, J>,
     passes: &mut [Pass<J>],
-    progress: Option<&Progress>,
+    pair: Pair<'_>,
 ) {
     let [first, second] = passes else {
         panic!(rt; "two passes");
     };
     let mut one = Desk::new(rt, exchange, first);
     let mut other = Desk::new(rt, exchange, second);
-    at_once(rt, &mut one, &mut other, progress);
+    at_once(rt, &mut one, &mut other, pair);
 }
 
 fn play_any<
@@ -106,11 +119,19 @@ fn play_any<
 {
     match play {
         Play::Scene(scene) => play_only(rt, scene, exchange, passes),
-        Play::Tickers => play_pair(rt, exchange, passes, None),
-        Play::TwoTicks(progress) => play_pair(rt, exchange, passes, Some(progress)),
+        Play::Tickers => play_pair(rt, exchange, passes, Pair::Tickers),
+        Play::TwoTicks(progress) => play_pair(rt, exchange, passes, Pair::TwoTicks(progress)),
+        Play::DrainBetween(between) => {
+            play_pair(rt, exchange, passes, Pair::DrainBetween(between));
+        }
+        Play::StormAndDrains(is_over) => {
+            play_pair(rt, exchange, passes, Pair::StormAndDrains(is_over));
+        }
+        Play::Drained(drain, kept) => *kept = play_drained(rt, alloc, drain, exchange, passes),
         Play::WholeCall(at, played) => *played = Some(play_call(rt, alloc, at, exchange, passes)),
         Play::Burst(burst, taken) => *taken = play_burst(rt, alloc, burst, exchange, passes),
         Play::Observed(calls) => *calls = play_observed(rt, alloc, exchange, passes),
+        Play::Draining(counts) => *counts = play_draining(rt, alloc, exchange, passes),
         Play::Waking(woken) => *woken = play_waking(rt, alloc, exchange, passes),
         Play::OneTurn(turns) => *turns = turn_on::<G, J, P, R>(rt, alloc, exchange, passes),
         Play::CallFor200(called) => *called = Some(call_first(rt, alloc, exchange, passes)),

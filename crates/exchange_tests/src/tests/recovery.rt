@@ -8,8 +8,8 @@ use peer_lock::{LedgerSet, OrderError};
 use std::process::Abort;
 use std::sync::Wait;
 
-// The greatest number of the plans.
-const NUMBERS: u16 = 8;
+/// The greatest number of the plans of two peers.
+pub const NUMBERS: u16 = 8;
 
 /// A NEW for 200 from call number 0.
 const LATE_NEW: [u8; 33] = [
@@ -55,8 +55,8 @@ fn wait_out<R: Wait, G: Gate, J: LedgerSet>(desk: &mut Desk<'_, R, G, J>, now: u
     moment
 }
 
-// Returns the number of numbers that have a leg.
-fn leg_count<R: Wait, G: Gate, J: LedgerSet>(desk: &mut Desk<'_, R, G, J>) -> u16 {
+/// Returns the number of numbers that have a leg.
+pub fn leg_count<R: Wait, G: Gate, J: LedgerSet>(desk: &mut Desk<'_, R, G, J>) -> u16 {
     let mut legs = 0u16;
     for number in 1..=NUMBERS {
         if desk.status(number).is_some() {
@@ -85,15 +85,29 @@ fn all_are_let_in<R: Wait, G: Gate, J: LedgerSet>(
     true
 }
 
+/// Hangs up every leg and waits. Returns the moment after that, or `None` if a leg is left then.
+pub fn all_end<R: Wait, G: Gate, J: LedgerSet>(
+    desk: &mut Desk<'_, R, G, J>,
+    now: u64,
+) -> Option<u64> {
+    if !all_hang_up(desk, now) {
+        return None;
+    }
+    let later = wait_out(desk, now);
+    if leg_count(desk) == 0 {
+        Some(later)
+    } else {
+        None
+    }
+}
+
 /// Hangs up every leg and waits. Returns whether none is left then, and callers get every number of both peers, so that no
 /// lease was kept.
 pub fn recovers<R: Wait, G: Gate, J: LedgerSet>(desk: &mut Desk<'_, R, G, J>, now: u64) -> bool {
-    if !all_hang_up(desk, now) {
+    let Some(later) = all_end(desk, now) else {
         return false;
-    }
-    let later = wait_out(desk, now);
-    leg_count(desk) == 0
-        && all_are_let_in(desk, WEST_PLACE, later)
+    };
+    all_are_let_in(desk, WEST_PLACE, later)
         && all_are_let_in(desk, EAST_PLACE, later)
         && leg_count(desk) == NUMBERS
 }

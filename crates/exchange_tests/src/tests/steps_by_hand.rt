@@ -2,6 +2,7 @@
 ghost use Rattle.std.specs.Prelude.{◌≡◌, ◌+◌, ◌^◌, length};
 
 mod compared;
+mod drained_steps;
 mod lines;
 mod made;
 mod peer_steps;
@@ -10,6 +11,7 @@ mod plain;
 use crate::tests::desk::{Desk, EAST_PLACE, WEST_PLACE};
 use crate::tests::same::holds;
 use crate::tests::steps_by_hand::compared::{compare_ends, play_lines};
+use crate::tests::steps_by_hand::drained_steps::play_drained;
 use crate::tests::steps_by_hand::lines::COUNT;
 use crate::tests::steps_by_hand::plain::{Peers, Plain};
 use call_auth::Challenge;
@@ -96,6 +98,7 @@ fn plain_of<'p, O: Ledger + Send + Sync, T: Ledger + Send + Sync>(
         pass: Pass::new(no_octets, no_steps),
         lease: None,
         leaving: None,
+        drains_before: None,
     }
 }
 
@@ -175,4 +178,52 @@ fn lines_in_each_rotation(rt: HostRuntime) {
         let sent = played_from(&rt, rt.alloc(), start);
         holds(&rt, "datagrams went out", sent > 10);
     }
+}
+
+// Has two drivers of the plan play the lines up to this one, and the second drain from before this step of it on. Returns how
+// many steps the line has.
+fn beside_drained<
+    R: Abort,
+    O: Ledger + Send + Sync,
+    T: Ledger + Send + Sync,
+    P: Ledger + Send + Sync,
+    Q: Ledger + Send + Sync,
+>(rt: &R, alloc: Global, plan: &Plan, line: usize, step: u64, calm: Blanks, drained: Blanks) -> u64
+    requires octets { (calm.octets.name ≡ O.name) × (calm.octets.parts ≡ O.parts) × (calm.octets.parts ≡ 3) }
+    requires steps { (calm.steps.name ≡ T.name) × (calm.steps.parts ≡ T.parts) × (calm.steps.parts ≡ 3) }
+    requires drained_octets { (drained.octets.name ≡ P.name) × (drained.octets.parts ≡ P.parts) × (drained.octets.parts ≡ 3) }
+    requires drained_steps { (drained.steps.name ≡ Q.name) × (drained.steps.parts ≡ Q.parts) × (drained.steps.parts ≡ 3) }
+{
+    let mut one = plain_of::<O, T>(rt, alloc, plan, calm.octets, calm.steps);
+    let mut other = plain_of::<P, Q>(rt, alloc, plan, drained.octets, drained.steps);
+    play_drained(rt, &mut one, &mut other, line, step)
+}
+
+// As `beside_drained`, over ledgers of its own.
+fn drained_at(rt: &impl Abort, alloc: Global, plan: &Plan, line: usize, step: u64) -> u64 {
+    let calm = Blanks {
+        octets: Blank::new(3),
+        steps: Blank::new(3),
+    };
+    let other = Blanks {
+        octets: Blank::new(3),
+        steps: Blank::new(3),
+    };
+    beside_drained::<_, Brand, Brand, Brand, Brand>(rt, alloc, plan, line, step, calm, other)
+}
+
+// A drain that begins before any step of any line.
+#[test]
+fn drains_before_each_step(rt: HostRuntime) {
+    let plan = plan_of(&rt, rt.alloc());
+    let mut places = 0u64;
+    for line in 0..COUNT {
+        for step in 0..100 {
+            if drained_at(&rt, rt.alloc(), &plan, line, step) <= step {
+                break;
+            }
+            places = places.saturating_add(1);
+        }
+    }
+    holds(&rt, "steps", places > 50);
 }

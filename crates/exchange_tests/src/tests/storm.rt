@@ -1,20 +1,50 @@
-//! A storm of datagrams on calls of all numbers: no leg changes but those concerned, and in the end all settles.
+//! A storm of datagrams on calls of all numbers: no leg changes but those concerned, and in the end all settles. So too while
+//! peers begin and end to drain, in this thread or in another.
 
 use crate::tests::datagrams::{Call, Dice, Sent, new_call};
 use crate::tests::desk::{Desk, EAST_PLACE, Told, WEST_PLACE, heard, peer_of, tick_both};
 use crate::tests::legs::Legs;
-use crate::tests::opened::{Scene, play_on};
+use crate::tests::opened::{Play, Scene, play_on, play_with};
 use crate::tests::recovery::recovers;
-use crate::tests::same::holds;
-use exchange_core::{Gate, Refusal};
-use layer_tests::plans::ONE_WORKER;
+use crate::tests::same::{holds, same};
+use exchange_core::{Gate, NoGate, Refusal, Rejection};
+use layer_tests::plans::{ONE_WORKER, TWO_PASSES};
 use peer_lock::LedgerSet;
 use std::process::Abort;
 use std::sync::Wait;
+use std::sync::atomic::{AtomicBool, Ordering};
 use std::test::*;
+use std::thread;
+use std::time::{Clock, Duration};
 
 /// The number of datagrams in the storm.
 const DATAGRAMS: u64 = 100_000;
+
+/// The drains in a storm. With them it has a tenth of the datagrams.
+#[derive(Clone, Copy)]
+pub enum Drains<'a> {
+    /// No peer drains.
+    None,
+    /// Between datagrams a peer begins or ends to drain now and then.
+    Own,
+    /// Another thread begins and ends drains. It ends them all once the flag is set, and then clears the flag.
+    Others(&'a AtomicBool),
+}
+
+impl Drains<'_> {
+    // Returns the number of datagrams.
+    fn datagrams(self) -> u64 {
+        match self {
+            Drains::None => DATAGRAMS,
+            Drains::Own | Drains::Others(_) => DATAGRAMS / 10,
+        }
+    }
+
+    // Returns whether a drain may begin between two steps of a datagram.
+    fn may_come_between(self) -> bool {
+        matches!(self, Drains::Others(_))
+    }
+}
 
 /// The state of the peers, and the datagram that was sent last.
 #[derive(Drop)]
@@ -134,22 +164,24 @@ fn deliver_to<R: Wait, G: Gate, J: LedgerSet>(
 }
 
 // Returns whether a datagram may meet this refusal. Credit, serials and memory are ample, and a free number has no leg.
-fn is_expected(refusal: Refusal) -> bool {
-    !matches!(
-        refusal,
+fn is_expected(refusal: Refusal, drains: Drains<'_>) -> bool {
+    match refusal {
         Refusal::Stranger
-            | Refusal::StepsSpent
-            | Refusal::SerialsSpent
-            | Refusal::NumberBusy
-            | Refusal::Memory
-    )
+        | Refusal::StepsSpent
+        | Refusal::SerialsSpent
+        | Refusal::NumberBusy
+        | Refusal::Memory => false,
+        Refusal::Draining => drains.may_come_between(),
+        _ => true,
+    }
 }
 
-// Returns whether the change of the legs agrees with the answer to a datagram: a refused one changes none, another only
-// those that it concerns.
-fn is_allowed(legs: &mut Legs, sent: &Sent, told: Told) -> bool {
+// Returns whether the change of the legs agrees with the answer to a datagram: a refused one changes none, and neither does
+// one that is rejected because of a drain, another only those that it concerns.
+fn is_allowed(legs: &mut Legs, sent: &Sent, told: Told, drains: Drains<'_>) -> bool {
     match told.refused {
-        Some(refusal) => is_expected(refusal) && legs.are_unchanged(),
+        Some(refusal) => is_expected(refusal, drains) && legs.are_unchanged(),
+        None if told.rejected == Some(Rejection::Draining) => legs.are_unchanged(),
         None => {
             legs.pair_new();
             legs.differ_where_concerned(sent)
@@ -164,12 +196,12 @@ fn hear_one<R: Abort + Wait, G: Gate, J: LedgerSet>(
     legs: &mut Legs,
     sent: &Sent,
     now: u64,
+    drains: Drains<'_>,
 ) -> Told {
     let told = heard(desk, sent.peer, sent.octets(), now);
     legs.look(desk);
-    let is_so = is_allowed(legs, sent, told);
+    let is_so = is_allowed(legs, sent, told, drains);
     assert!(rt; is_so, "{:?}: {:?}", told.refused, sent.octets());
-    legs.part_gone();
     told
 }
 
@@ -178,6 +210,7 @@ fn hear_one<R: Abort + Wait, G: Gate, J: LedgerSet>(
 struct Tally {
     answered: u64,
     retired: u64,
+    drained: u64,
 }
 
 impl Tally {
@@ -186,21 +219,96 @@ impl Tally {
         if told.refused.is_none() {
             self.answered = self.answered.saturating_add(1);
         }
+        if told.rejected == Some(Rejection::Draining) || told.refused == Some(Refusal::Draining) {
+            self.drained = self.drained.saturating_add(1);
+        }
         self.retired = self.retired.saturating_add(told.retired as u64);
     }
 }
 
+// Returns a peer.
+fn any_peer(dice: &mut Dice) -> u16 {
+    if dice.below(2) == 0 {
+        WEST_PLACE
+    } else {
+        EAST_PLACE
+    }
+}
+
+/// The peers that drain by this thread's will.
+#[derive(Clone, Copy)]
+struct Drained {
+    west: bool,
+    east: bool,
+}
+
+impl Drained {
+    fn has(self, peer: u16) -> bool {
+        if peer == WEST_PLACE {
+            self.west
+        } else {
+            self.east
+        }
+    }
+
+    // Has a peer begin or end to drain. No leg changes.
+    fn turn<R: Abort + Wait, G: Gate, J: LedgerSet>(
+        &mut self,
+        desk: &mut Desk<'_, R, G, J>,
+        legs: &mut Legs,
+        peer: u16,
+    ) {
+        let drains = !self.has(peer);
+        if peer == WEST_PLACE {
+            self.west = drains;
+        } else {
+            self.east = drains;
+        }
+        desk.set_draining(peer, drains);
+        legs.look(desk);
+        holds(desk.rt, "a drain changes no leg", legs.are_unchanged());
+    }
+
+    // Asserts that a datagram of a peer that drains opened no leg of it, and that one of another peer isn't rejected.
+    fn expect(self, rt: &impl Abort, legs: &Legs, sent: &Sent, told: Told) {
+        if self.has(sent.peer) {
+            holds(rt, "no new leg", !legs.has_new_of(sent.peer));
+        } else {
+            let is_rejected = told.rejected == Some(Rejection::Draining);
+            holds(rt, "no drain", !is_rejected);
+        }
+    }
+}
+
 // A hundred thousand datagrams, many of them spoilt.
-fn storm<R: Abort + Wait, G: Gate, J: LedgerSet>(rt: &R, desk: &mut Desk<'_, R, G, J>) -> Tally {
+fn storm<R: Abort + Wait, G: Gate, J: LedgerSet>(
+    rt: &R,
+    desk: &mut Desk<'_, R, G, J>,
+    drains: Drains<'_>,
+) -> Tally {
     let mut peers = Peers::new();
     let mut legs = Legs::none();
     let mut tally = Tally {
         answered: 0,
         retired: 0,
+        drained: 0,
     };
-    for now in 0..DATAGRAMS {
+    let mut drained = Drained {
+        west: false,
+        east: false,
+    };
+    for now in 0..drains.datagrams() {
         let sent = peers.next(now);
-        tally.count(hear_one(rt, desk, &mut legs, &sent, now));
+        let told = hear_one(rt, desk, &mut legs, &sent, now, drains);
+        tally.count(told);
+        if let Drains::Own = drains {
+            drained.expect(rt, &legs, &sent, told);
+            if peers.dice.below(100) == 0 {
+                let peer = any_peer(&mut peers.dice);
+                drained.turn(desk, &mut legs, peer);
+            }
+        }
+        legs.part_gone();
         if now.is_multiple_of(250) {
             tick_both(desk, now);
             legs.look(desk);
@@ -212,18 +320,82 @@ fn storm<R: Abort + Wait, G: Gate, J: LedgerSet>(rt: &R, desk: &mut Desk<'_, R, 
     tally
 }
 
+// Asserts that the storm isn't all refusals, and that drains were met if there were any.
+fn expect_all_kinds(rt: &impl Abort, tally: &Tally, drains: Drains<'_>) {
+    more_than(rt, "answered", tally.answered, drains.datagrams() / 4);
+    more_than(rt, "retired", tally.retired, drains.datagrams() / 200);
+    match drains {
+        Drains::None => same(rt, &tally.drained, &0),
+        Drains::Own => more_than(rt, "met drains", tally.drained, 100),
+        Drains::Others(_) => more_than(rt, "met drains", tally.drained, 0),
+    }
+}
+
 /// Plays the storm, and then ends all calls.
-pub fn storm_and_end<R: Abort + Wait, G: Gate, J: LedgerSet>(rt: &R, desk: &mut Desk<'_, R, G, J>) {
-    let tally = storm(rt, desk);
-    // The storm isn't all refusals.
-    more_than(rt, "answered", tally.answered, DATAGRAMS / 4);
-    more_than(rt, "retired", tally.retired, 1000);
-    holds(rt, "recovery", recovers(desk, DATAGRAMS));
+pub fn storm_and_end<R: Abort + Clock + Wait, G: Gate, J: LedgerSet>(
+    rt: &R,
+    desk: &mut Desk<'_, R, G, J>,
+    drains: Drains<'_>,
+) {
+    let tally = storm(rt, desk, drains);
+    if let Drains::Others(is_over) = drains {
+        is_over.store(true, Ordering::SeqCst);
+        holds(rt, "the other thread ends", is_cleared_in_time(rt, is_over));
+    }
+    desk.set_draining(WEST_PLACE, false);
+    desk.set_draining(EAST_PLACE, false);
+    expect_all_kinds(rt, &tally, drains);
+    holds(rt, "recovery", recovers(desk, drains.datagrams()));
+}
+
+// Returns whether a flag is cleared within ten thousand waits of a millisecond.
+fn is_cleared_in_time(clock: &impl Clock, flag: &AtomicBool) -> bool {
+    for _ in 0..10_000 {
+        if !flag.load(Ordering::SeqCst) {
+            return true;
+        }
+        thread::sleep(clock, Duration::from_millis(1));
+    }
+    false
+}
+
+/// Begins and ends drains of the peers until the flag is set. Then clears it, and no longer drains any.
+pub fn drain_until_over<R: Clock + Wait, G: Gate, J: LedgerSet>(
+    rt: &R,
+    desk: &mut Desk<'_, R, G, J>,
+    is_over: &AtomicBool,
+) {
+    let mut dice = Dice::new(0x9e37_79b9_7f4a_7c15);
+    // More than the storm takes.
+    for _ in 0..10_000_000u64 {
+        if is_over.load(Ordering::SeqCst) {
+            is_over.store(false, Ordering::SeqCst);
+            return;
+        }
+        let peer = any_peer(&mut dice);
+        desk.set_draining(peer, dice.below(2) == 0);
+        thread::sleep(rt, Duration::from_micros(dice.below(200)));
+    }
 }
 
 // Asserts that a count is more than `least`.
 fn more_than(rt: &impl Abort, what: &str, count: u64, least: u64) {
     assert!(rt; count > least, "{count} {what}");
+}
+
+#[test]
+fn storm_with_drains(rt: HostRuntime) {
+    let sums = play_on(&rt, rt.alloc(), ONE_WORKER, Scene::StormWithDrains);
+    more_than(&rt, "packed", sums.packed, 20);
+}
+
+#[test]
+fn storm_beside_drains(rt: HostRuntime) {
+    let is_over = AtomicBool::new(false);
+    let play = Play::StormAndDrains(&is_over);
+    let sums = play_with(&rt, rt.alloc(), TWO_PASSES, NoGate, play);
+    let packed = sums.expect(&rt, "an exchange").packed;
+    more_than(&rt, "packed", packed, 20);
 }
 
 #[test]

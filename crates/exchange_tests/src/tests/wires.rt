@@ -2,6 +2,7 @@
 
 mod both_at_once;
 mod burst;
+mod draining;
 mod failing_wire;
 mod loopback;
 mod memory_wire;
@@ -12,6 +13,7 @@ mod woken_wire;
 
 pub use crate::tests::wires::both_at_once::turn_on;
 pub use crate::tests::wires::burst::{Burst, Taken, play_burst};
+pub use crate::tests::wires::draining::{Unaccepted, play_draining};
 pub use crate::tests::wires::loopback::{Rejection, call_first};
 pub use crate::tests::wires::observed::{Calls, play_observed};
 pub use crate::tests::wires::waking::play_waking;

@@ -49,6 +49,7 @@ pub fn rules(ping_ms: u16) -> PeerRules
         carries_cause: false,
         routes_format: false,
         is_hardened: false,
+        poke_offset: 0,
     }
 }
 

@@ -121,6 +121,7 @@ fn rules_from(
         carries_cause: format == 4,
         routes_format: format == 4,
         is_hardened: format == 4,
+        poke_offset: 0,
     }
 }
 

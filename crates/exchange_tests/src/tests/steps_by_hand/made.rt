@@ -27,6 +27,9 @@ pub struct Given<'a> {
 /// The result of a call.
 #[derive(Drop)]
 pub struct Made {
+    /// The number of steps that its work named, of peers and of the book.
+    pub asked: u64,
+    /// The number of steps of peers.
     pub steps: u64,
     /// The refusal of a datagram, a tick or a placed call, if no step was made.
     pub refused: Option<Refusal>,
@@ -52,6 +55,7 @@ impl Made {
     /// Returns the result of a call that has made no step yet.
     pub fn nothing(alloc: Global) -> Made {
         Made {
+            asked: 0,
             steps: 0,
             refused: None,
             disobeyed: None,

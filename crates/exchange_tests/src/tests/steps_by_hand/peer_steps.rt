@@ -50,6 +50,12 @@ pub fn formats_of(rt: &impl Abort, plan: &Plan, peer: u16) -> Formats {
     plan.rules(PeerId::new(peer)).formats
 }
 
+// Returns whether the rules of a peer of the plan harden its legs.
+pub fn is_hardened(rt: &impl Abort, plan: &Plan, peer: u16) -> bool {
+    assert!(rt; peer < plan.peer_count(), "a peer of the plan");
+    plan.rules(PeerId::new(peer)).is_hardened
+}
+
 // Counts the octets of media in an order: none, or 1 to 1,380.
 fn octets_in(rt: &impl Abort, order: &Order<'_>) -> u64
     ensures octets { result ≡ length (media_of order.now) }

@@ -2,10 +2,11 @@
 
 use crate::tests::desk::WEST_PLACE;
 use crate::tests::steps_by_hand::made::{Given, Gone, Made};
-use crate::tests::steps_by_hand::peer_steps::formats_of;
+use crate::tests::steps_by_hand::peer_steps::{formats_of, is_hardened};
 use call_auth::Challenge;
 use call_book::{CallBook, Lease, LegName, PeerId};
 use call_control::{Need, Reply, Route, Work};
+use call_signals::are_printable;
 use iax_frames::Out;
 use peer_lock::{ClosedPeer, LedgerSet, Offer, Pass, PeerState, Status};
 use peer_plan::Plan;
@@ -28,6 +29,12 @@ impl<J: LedgerSet> Peers<J> {
             &mut self.east
         }
     }
+
+    /// Sets whether both drain.
+    pub fn set_draining(&mut self, drains: bool) {
+        self.west.set_draining(drains);
+        self.east.set_draining(drains);
+    }
 }
 
 /// The peers of a plan, their book and a pass, without locks.
@@ -43,6 +50,8 @@ pub struct Plain<'p, J: LedgerSet> {
     pub lease: Option<Lease>,
     /// The leg that the present call has removed and not yet released.
     pub leaving: Option<Gone>,
+    /// The place of the step, from 0 on, before which the peers begin to drain in the next call.
+    pub drains_before: Option<u64>,
 }
 
 impl<J: LedgerSet> Plain<'_, J> {
@@ -51,6 +60,10 @@ impl<J: LedgerSet> Plain<'_, J> {
         let Some(offer) = offer else {
             return Route::Nowhere;
         };
+        let is_bad = !are_printable(offer.called.as_slice());
+        if is_bad && is_hardened(rt, self.plan, offered.owner().get()) {
+            return Route::BadNumber;
+        }
         let Some(peer) = self.plan.route(offered.owner(), offer.called.as_slice()) else {
             return Route::Nowhere;
         };
@@ -111,13 +124,17 @@ impl<J: LedgerSet> Plain<'_, J> {
         let mut work = work;
         let mut made = Made::nothing(self.alloc);
         let first = self.pass.steps();
-        for _ in 0..1000 {
+        for place in 0..1000 {
+            if self.drains_before == Some(place) {
+                self.peers.set_draining(true);
+            }
             let Some(need) = work.next() else {
                 made.steps = self.pass.steps().wrapping_sub(first);
                 if made.steps > 0 {
                     made.refused = None;
                     made.disobeyed = None;
                 }
+                made.asked = place;
                 return made;
             };
             let reply = self.makes(rt, need, &work, given, &mut made);
@@ -138,6 +155,7 @@ impl<J: LedgerSet> Plain<'_, J> {
             pass,
             lease: _,
             leaving: _,
+            drains_before: _,
         } = self;
         let Peers { west, east } = peers;
         let (west, _, _) = west.part();

@@ -60,11 +60,13 @@ fn expected(place: usize) -> Option<Call<'static>> {
         2 => Some(Call::Event(Event::Received {
             peer: west,
             now: MOMENT,
+            is_alive: true,
         })),
         3 => Some(Call::Datagram(Some(east), EAST, accept)),
         4 => Some(Call::Event(Event::Received {
             peer: east,
             now: MOMENT,
+            is_alive: true,
         })),
         5 => Some(Call::TicksBegin),
         6 => Some(Call::Event(Event::Sent { peer: east })),

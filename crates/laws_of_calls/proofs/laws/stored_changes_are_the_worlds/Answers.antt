@@ -1,4 +1,4 @@
-use Rattle.laws_of_calls.proofs.Events.{begin_seen, step_seen, out_seen}
+use Rattle.laws_of_calls.proofs.Events.{begin_seen, draining_seen, out_seen, step_seen}
 use Rattle.laws_of_calls.proofs.Kept.{peers_kept, ranges_kept}
 use Rattle.laws_of_calls.proofs.WorldSteps.{PeersSteps}
 use Rattle.laws_of_calls.proofs.laws.stored_changes_are_the_worlds.Goals as goal
@@ -24,6 +24,9 @@ returns-clause-steps c called old new world are busy stale serve seen s =
 
 pub returns-clause-outboxes : goal.returns-clause-outboxes
 returns-clause-outboxes c = out_seen
+
+pub returns-clause-drains : goal.returns-clause-drains
+returns-clause-drains c = draining_seen
 
 pub returns-clause-peers : goal.returns-clause-peers
 returns-clause-peers c = peers_kept

@@ -9,7 +9,14 @@ use Rattle.laws_of_calls.proofs.laws.stored_runs_are_the_worlds.Goals as goal
 changes : goal.After-stored_changes_are_the_worlds → ChangesAreEvents
 changes c =
     let laws = c.stored_changes_are_the_worlds.ensures in
-    record { begins = laws.begins; steps = laws.steps; outboxes = laws.outboxes; peers = laws.peers; ranges = laws.ranges }
+    record {
+      begins = laws.begins;
+      steps = laws.steps;
+      outboxes = laws.outboxes;
+      drains = laws.drains;
+      peers = laws.peers;
+      ranges = laws.ranges;
+    }
 
 in_runs : goal.After-stored_changes_are_the_worlds → InRuns
 in_runs c =

@@ -1,4 +1,4 @@
-use Rattle.memory_requests.specs.Refused.{asked_in_vain}
+use Rattle.memory_refusals.specs.Refused.{asked_in_vain}
 use Rattle.memory_requests.proofs.requests.push.Goals as goal
 
 pub returns-clause-refused : goal.returns-clause-refused

@@ -1,4 +1,4 @@
-use Rattle.std.proofs.Common.{◌≡◌, ◌≤◌, length, arith, sym, subst, ◌∙◌}
+use Rattle.std.proofs.Common.{◌≡◌, ◌≤◌, ◌==◌, length, arith, sym, subst, ◌∙◌}
 use Rattle.toml.specs.View.{table_view}
 use Rattle.call_signals.specs.PeerRules.{IsWithin}
 use Rattle.peer_plan.proofs.PlanLaws.{ArePeers, peers_sound, routes_sound}
@@ -47,7 +47,8 @@ invariant_of-result c =
     let lead = routes_sound c.in_ok-format.format c.in_ok-peers.peers.items ms c.in_ok-routes.routes
     (rw c.deref.ensures.value at c.in_ok-routes.ensures) in
     record {
-      plan = plan_sound c.in_ok-workers.workers.items c.in_ok-passes.passes c.in_ok-peers.peers.items c.in_ok-routes.routes some
+      plan = plan_sound c.in_ok-workers.workers.items c.in_ok-passes.passes c.in_ok-peers.peers.items c.in_ok-routes.routes
+          (c.in_ok-format.format == 4) some
           (subst (λ n. IsWithin n 64 c.in_ok-passes.passes) count enough) (subst (λ n. ArePeers n c.in_ok-peers.peers.items) count
           are) lead;
       endpoints = rw c.deref-2.ensures.value at c.in_ok-endpoints.ensures;

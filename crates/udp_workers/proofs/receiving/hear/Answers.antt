@@ -1,40 +1,52 @@
-use Rattle.std.specs.Prelude.{All, IfSome, None, Option, Some, option_map, slice_get}
-use Rattle.std.proofs.Common.{Bor, rules, ◌≡◌, ◌∙◌, ℕ, subst}
+use Rattle.std.specs.Prelude.{All, IfSome, Some, option_map, slice_get}
+use Rattle.std.proofs.Common.{Bor, rules, ◌≡◌, ◌∙◌, inr, refl, subst, sym, true, false}
+use Rattle.exchange_core.specs.Denial.{refusal_in}
 use Rattle.exchange_core.specs.Leaving.{departure_of}
 use Rattle.exchange_core.specs.declared.answers.Retired.{Retired}
-use Rattle.peer_lock.specs.declared.steps.Rejection.{Rejection}
-use Rattle.peer_plan.specs.Plan.{PlanView}
-use Rattle.peer_plan.specs.declared.endpoint.Endpoint.{Endpoint}
 use Rattle.udp_workers.proofs.HandingLaws.{leave_gives}
-use Rattle.udp_workers.specs.Receipts.{TellsRejection}
+use Rattle.udp_workers.proofs.ReceiptLaws.{refusal_read, reports_answered, reports_away}
+use Rattle.udp_workers.specs.Draining.{IsTurnedAway}
 use Rattle.udp_workers.proofs.receiving.hear.Goals as goal
-use Rattle.exchange_core.specs.declared.watch.Event.{Event}
 use Rattle.exchange_core.specs.declared.watch.Event.TheVariants as events
 
--- a rejection that was told is that of the answer
-rejection_told : (told : Event → Type 0) (plan : PlanView) (from : Endpoint) (peer : ℕ) (answer since : Option Rejection)
-    → option_map (λ peer. peer.endpoint) (slice_get plan.peers peer) ≡ Some from
-    → IfSome answer (λ reported. told (events.Rejected peer reported)) → answer ≡ since
-    → TellsRejection told plan from since
-rejection_told told plan from peer answer since found each same = subst (TellsRejection told plan from) same
-    (of_answer answer each)
-  where
-    of_answer : (o : Option Rejection) → IfSome o (λ reported. told (events.Rejected peer reported))
-        → TellsRejection told plan from o
-    of_answer None each = tt
-    of_answer (Some reported) each = (peer, found, each)
+pub returns-then-is_turned_away-clause-told : goal.returns-then-is_turned_away-clause-told
+returns-then-is_turned_away-clause-told g c =
+    let turn = c.args.turn.now in
+    let peer = c.in-Some.peer in
+    let found : option_map (λ peer. peer.endpoint) (slice_get turn.exchange.now.peers peer) ≡ Some c.args.from = search rules in
+    let away = subst (λ (w : Bor g.row.V.Denot). g.V.Watch.told w.now (events.TurnedAway peer))
+    c.tell-then-is_turned_away.ensures.watch c.tell-then-is_turned_away-2.ensures.told in
+    inr (
+      peer,
+      found,
+      reports_away (g.V.Watch.told c.args.tally.now.watch.now) peer turn.stage turn.time c.args.octets.now c.args.pass.now
+          c.tell-then-is_turned_away.ensures.told away,
+    )
 
-pub returns-clause-rejected : goal.returns-clause-rejected
-returns-clause-rejected g c =
-    let found : option_map (λ peer. peer.endpoint) (slice_get c.args.turn.now.exchange.now.peers c.in-Some.peer) ≡
-    Some c.args.from = search rules in
-    let each =
-    subst (λ (w : Bor g.row.V.Denot). IfSome c.datagram_of-answer.result.rejected
-    (λ reported. g.V.Watch.told w.now (events.Rejected c.in-Some.peer reported)))
-    c.tell-2.ensures.watch c.tell_outcome.ensures.rejected in
-    rejection_told (g.V.Watch.told c.args.tally.now.watch.now) c.args.turn.now.exchange.now c.args.from c.in-Some.peer
-    c.datagram_of-answer.result.rejected _ found each
-    c.datagram_of-answer.ensures.rejected
+pub returns-clause-told : goal.returns-clause-told
+returns-clause-told g c =
+    let turn = c.args.turn.now in
+    let peer = c.in-Some.peer in
+    let answer = c.datagram_of-answer in
+    let found : option_map (λ peer. peer.endpoint) (slice_get turn.exchange.now.peers peer) ≡ Some c.args.from = search rules in
+    let refused = refusal_read _ refusal_in answer.result.refused _ answer.ensures.reason refl (λ one. refl) in
+    let refusals =
+    subst (λ (w : Bor g.row.V.Denot). IfSome answer.result.refused
+    (λ refusal. g.V.Watch.told w.now (events.Refused peer refusal))) c.tell-2.ensures.watch c.tell_outcome.ensures.refused in
+    let rejections =
+    subst (λ (w : Bor g.row.V.Denot). IfSome answer.result.rejected
+    (λ rejection. g.V.Watch.told w.now (events.Rejected peer rejection))) c.tell-2.ensures.watch
+    c.tell_outcome.ensures.rejected in
+    let kept : IsTurnedAway turn.stage c.args.octets.now → ⊥ = λ turned.
+    let yes : c.is_turned_away.result ≡ true = c.is_turned_away.ensures.1 turned in
+    let clash : true ≡ false = sym yes ∙ c.if-is_turned_away.false in cc in
+    inr (
+      peer,
+      found,
+      reports_answered (g.V.Watch.told c.args.tally.now.watch.now) peer turn.stage turn.time c.args.octets.now c.args.pass.now
+          answer.new.pass c.is_sign_of_life.result c.is_some.result answer.result.refused answer.result.rejected kept
+          c.is_some.ensures c.is_sign_of_life.ensures refused answer.ensures.rejected c.tell-2.ensures.told refusals rejections,
+    )
 
 pub returns-clause-handed : goal.returns-clause-handed
 returns-clause-handed g c =

@@ -1,7 +1,9 @@
 use Rattle.std.proofs.Common.{◌≡◌, ◌+◌, ℕ, Bor, None, Some, ◌∙◌, ap, arith, refl, rules, subst, sym}
 use Rattle.udp_workers.specs.Handed.{GivesAll}
 use Rattle.udp_wires.specs.Parcels.{Parcel}
-use Rattle.udp_workers.specs.Intake.{Fills, InboxView, IsLoaded, TakesIn, TurnView}
+use Rattle.udp_workers.specs.Intake.{Fills, InboxView, IsLoaded, TurnView}
+use Rattle.udp_workers.specs.Receipts.{Reports}
+use Rattle.udp_workers.specs.Runs.{TakesAndReports}
 use Rattle.udp_workers.specs.declared.report.TurnReport.{TurnReport}
 use Rattle.udp_workers.proofs.HandingLaws.{gives_none, gives_on}
 use Rattle.udp_workers.proofs.IntakeLaws.{TakesSoFar, at_error, not_there, takes_64, takes_no_more, takes_none, takes_one}
@@ -12,6 +14,7 @@ use Rattle.udp_workers.proofs.receiving.receive_all.Goals as goal
 pub returns-then-is_err-clause-takes : goal.returns-then-is_err-clause-takes
 returns-then-is_err-clause-takes g c =
     let turn = c.args.turn.now in
+    let told = g.V.Watch.told c.args.tally.now.watch.now in
     let l = c.loop in
     let came = g.W.Wire.came c.args.wire.now in
     let seen = g.W.Wire.came l.wire in
@@ -19,12 +22,12 @@ returns-then-is_err-clause-takes g c =
     let view : TurnView = record { stage = turn.stage; now = turn.time; challenge = turn.challenge.now } in
     let none = sym (at_error c.fill.result (c.fill.new.self.datagram ≡ None) c.fill.ensures.fault
     (sym c.is_err.ensures.value ∙ c.if-is_err.true)) in
-    let so_far = subst (λ (n : ℕ). TakesSoFar turn.intake turn.exchange.now view c.args.inbox.now.datagram l.inbox.datagram
+    let so_far = subst (λ (n : ℕ). TakesSoFar told turn.intake turn.exchange.now view c.args.inbox.now.datagram l.inbox.datagram
     l.taken l.counter c.args.tally.now.report.received n c.args.pass.now l.pass came seen)
     (sym (ap (λ (report : TurnReport). report.received) c.tell.ensures.counted)) l.invariant.takes in
-    subst (λ left. TakesIn turn.intake turn.exchange.now view c.args.inbox.now.datagram left c.args.tally.now.report.received
+    subst (λ left. TakesAndReports told turn.intake turn.exchange.now view c.args.inbox.now.datagram left c.args.tally.now.report.received
     c.tell.new.self.report.received c.args.pass.now l.pass came now) none
-    (takes_no_more turn.intake turn.exchange.now view c.args.inbox.now.datagram c.args.tally.now.report.received c.args.pass.now
+    (takes_no_more told turn.intake turn.exchange.now view c.args.inbox.now.datagram c.args.tally.now.report.received c.args.pass.now
     came l.inbox.datagram l.taken l.counter c.tell.new.self.report.received l.pass seen now
     so_far (subst (λ here. Fills l.inbox.datagram here seen now) (sym none) c.fill.ensures.fills)
     (λ some. none ∙ ap (λ (inbox : InboxView). inbox.datagram) (c.fill.ensures.kept some)) (omega arith))
@@ -32,6 +35,7 @@ returns-then-is_err-clause-takes g c =
 pub returns-in_default-clause-takes : goal.returns-in_default-clause-takes
 returns-in_default-clause-takes g c =
     let turn = c.args.turn.now in
+    let told = g.V.Watch.told c.args.tally.now.watch.now in
     let l = c.loop in
     let came = g.W.Wire.came c.args.wire.now in
     let seen = g.W.Wire.came l.wire in
@@ -39,9 +43,9 @@ returns-in_default-clause-takes g c =
     let view : TurnView = record { stage = turn.stage; now = turn.time; challenge = turn.challenge.now } in
     let none : None ≡ c.fill.new.self.datagram = not_there c.fill.new.self.datagram c.datagram.result c.datagram.ensures
     c.in_default.is in
-    subst (λ left. TakesIn turn.intake turn.exchange.now view c.args.inbox.now.datagram left c.args.tally.now.report.received
+    subst (λ left. TakesAndReports told turn.intake turn.exchange.now view c.args.inbox.now.datagram left c.args.tally.now.report.received
     l.tally.report.received c.args.pass.now l.pass came now) none
-    (takes_no_more turn.intake turn.exchange.now view c.args.inbox.now.datagram c.args.tally.now.report.received c.args.pass.now
+    (takes_no_more told turn.intake turn.exchange.now view c.args.inbox.now.datagram c.args.tally.now.report.received c.args.pass.now
     came l.inbox.datagram l.taken l.counter l.tally.report.received l.pass seen now
     l.invariant.takes (subst (λ here. Fills l.inbox.datagram here seen now) (sym none) c.fill.ensures.fills)
     (λ some. none ∙ ap (λ (inbox : InboxView). inbox.datagram) (c.fill.ensures.kept some)) (omega arith))
@@ -49,6 +53,7 @@ returns-in_default-clause-takes g c =
 pub returns-in_default-loaded-clause-takes : goal.returns-in_default-loaded-clause-takes
 returns-in_default-loaded-clause-takes g c =
     let turn = c.args.turn.now in
+    let told = g.V.Watch.told c.args.tally.now.watch.now in
     let l = c.loop in
     let came = g.W.Wire.came c.args.wire.now in
     let seen = g.W.Wire.came l.wire in
@@ -57,28 +62,30 @@ returns-in_default-loaded-clause-takes g c =
     let arrival : Parcel = record { endpoint = c.in-Some.from; octets = c.in-Some.octets.now } in
     let here : Some arrival ≡ c.fill.new.self.datagram = c.in-Some.ensures in
     let full = subst (IsLoaded turn.intake l.taken arrival.octets) c.in_default-loaded.is c.loaded.ensures in
-    subst (λ left. TakesIn turn.intake turn.exchange.now view c.args.inbox.now.datagram left c.args.tally.now.report.received
+    subst (λ left. TakesAndReports told turn.intake turn.exchange.now view c.args.inbox.now.datagram left c.args.tally.now.report.received
     l.tally.report.received c.args.pass.now l.pass came now) here
-    (takes_what_fits turn.intake turn.exchange.now view c.args.inbox.now.datagram c.args.tally.now.report.received c.args.pass.now
+    (takes_what_fits told turn.intake turn.exchange.now view c.args.inbox.now.datagram c.args.tally.now.report.received c.args.pass.now
     came l.inbox.datagram l.taken arrival l.counter l.tally.report.received l.pass seen now
     l.invariant.takes (subst (λ left. Fills l.inbox.datagram left seen now) (sym here) c.fill.ensures.fills) full (omega arith))
 
 pub returns-clause-takes : goal.returns-clause-takes
 returns-clause-takes g c =
     let turn = c.args.turn.now in
+    let told = g.V.Watch.told c.args.tally.now.watch.now in
     let l = c.loop in
     let came = g.W.Wire.came c.args.wire.now in
     let seen = g.W.Wire.came l.wire in
     let view : TurnView = record { stage = turn.stage; now = turn.time; challenge = turn.challenge.now } in
     let all : l.counter ≡ 64 = omega arith in
-    takes_64 turn.intake turn.exchange.now view c.args.inbox.now.datagram c.args.tally.now.report.received c.args.pass.now came
+    takes_64 told turn.intake turn.exchange.now view c.args.inbox.now.datagram c.args.tally.now.report.received c.args.pass.now came
     l.inbox.datagram l.taken l.tally.report.received l.pass seen
-    (subst (λ (n : ℕ). TakesSoFar turn.intake turn.exchange.now view c.args.inbox.now.datagram l.inbox.datagram l.taken n
+    (subst (λ (n : ℕ). TakesSoFar told turn.intake turn.exchange.now view c.args.inbox.now.datagram l.inbox.datagram l.taken n
     c.args.tally.now.report.received l.tally.report.received c.args.pass.now l.pass came seen) all l.invariant.takes)
 
 pub loop-preserved : goal.loop-preserved
 loop-preserved g c =
     let turn = c.args.turn.now in
+    let told = g.V.Watch.told c.args.tally.now.watch.now in
     let l = c.loop in
     let came = g.W.Wire.came c.args.wire.now in
     let seen = g.W.Wire.came l.wire in
@@ -112,23 +119,26 @@ loop-preserved g c =
           (c.take.ensures.watch ∙ l.invariant.watch) c.hear.ensures.handed);
       none_lost = search rules;
       takes =
-          subst (λ left. TakesSoFar turn.intake turn.exchange.now view c.args.inbox.now.datagram left (Some c.in-Some-loaded.load)
+          subst (λ left. TakesSoFar told turn.intake turn.exchange.now view c.args.inbox.now.datagram left (Some c.in-Some-loaded.load)
           (l.counter + 1) c.args.tally.now.report.received c.hear.new.tally.report.received
           c.args.pass.now c.hear.new.pass came now)
           (sym (ap (λ (inbox : InboxView). inbox.datagram) c.clear.ensures))
-          (takes_one turn.intake turn.exchange.now view c.args.inbox.now.datagram c.args.tally.now.report.received c.args.pass.now
+          (takes_one told turn.intake turn.exchange.now view c.args.inbox.now.datagram c.args.tally.now.report.received c.args.pass.now
           came l.inbox.datagram l.taken c.in-Some-loaded.load arrival l.counter l.tally.report.received
           c.hear.new.tally.report.received
           l.pass c.hear.new.pass seen now l.invariant.takes (subst (λ left. Fills l.inbox.datagram left seen now) (sym here)
           c.fill.ensures.fills)
           (λ some. here ∙ ap (λ (inbox : InboxView). inbox.datagram) (c.fill.ensures.kept some)) more
           (record { away = λ is. (c.hear.ensures.away is).0; heard = c.hear.ensures.heard })
+          (subst (λ (watch : Bor g.row.V.Denot). Reports (g.V.Watch.told watch.now) turn.exchange.now turn.stage turn.time arrival
+          l.pass c.hear.new.pass) (c.take.ensures.watch ∙ l.invariant.watch) c.hear.ensures.told)
           (c.hear.ensures.received ∙ ap (λ (n : ℕ). n + 1) received));
     }
 
 pub loop-init : goal.loop-init
 loop-init g c =
     let turn = c.args.turn.now in
+    let told = g.V.Watch.told c.args.tally.now.watch.now in
     let view : TurnView = record { stage = turn.stage; now = turn.time; challenge = turn.challenge.now } in
     record {
       received = omega arith;
@@ -149,6 +159,6 @@ loop-init g c =
       handed = gives_none (g.V.Watch.given c.args.tally.now.watch.now) c.args.pass.now;
       none_lost = refl;
       takes =
-          takes_none turn.intake turn.exchange.now view c.args.inbox.now.datagram c.args.tally.now.report.received c.args.pass.now
+          takes_none told turn.intake turn.exchange.now view c.args.inbox.now.datagram c.args.tally.now.report.received c.args.pass.now
           (g.W.Wire.came c.args.wire.now);
     }

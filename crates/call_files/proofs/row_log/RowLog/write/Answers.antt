@@ -21,7 +21,7 @@ returns-clause-lines g c =
           let count : w.write_all-count.result ≡ c.if-is_ready.count = search rules in
           let log : w.write_all-count.new.self ≡ c.if-is_ready.self = search rules in
           subst (λ n. IsWritten IsLine opened n c.if-is_ready.self) count
-          (subst (λ l. IsWritten IsLine opened w.write_all-count.result l) log w.write_all-count.ensures)
+          (subst (λ l. IsWritten IsLine opened w.write_all-count.result l) log w.write_all-count.ensures.written)
       | else-is_ready w ↦
           let count : 0 ≡ c.if-is_ready.count = search rules in
           let log : opened ≡ c.if-is_ready.self = search rules in

@@ -25,8 +25,8 @@ loop-preserved g c =
       elim c.if-is_row.branch [ then-is_row w ↦ search rules | else-is_row w ↦ search rules ],
     )
 
-pub returns-then-not-take_next : goal.returns-then-not-take_next
-returns-then-not-take_next g c =
+pub returns-then-not-take_next-clause-written : goal.returns-then-not-take_next-clause-written
+returns-then-not-take_next-clause-written g c =
     let IsLine = g.S.Spelling.is_line c.args.spelling.now in
     let next : LogView g.row.T.Denot = record { backlog = c.self.inside.waiting; file = c.go_on.new.self } in
     let done : List (List ℕ) = row_octets c.loop.self.file.row in

@@ -5,6 +5,7 @@ use Rattle.call_control.specs.Work.{next_of}
 use Rattle.exchange_core.specs.Denial.{noted}
 use Rattle.exchange_core.specs.FirstSteps.{InPlan, IsOfNew, KeepsPeer}
 use Rattle.exchange_core.specs.Leaving.{LeftSince, leaving_of}
+use Rattle.exchange_core.specs.Names.{named_by}
 use Rattle.exchange_core.specs.Newcomers.{SpellsOpening}
 use Rattle.exchange_core.proofs.Carrying.{covers_need, covers_rest, leaves_lease}
 use Rattle.exchange_core.proofs.Denying.{CalledIsGiven, denied_more, none_denied, some_copied}
@@ -13,8 +14,9 @@ use Rattle.exchange_core.proofs.FirstPeers.{starts_first, next_in_plan, stays_in
 use Rattle.exchange_core.proofs.FirstPeers.{opened_here, opens_after, stands_on}
 use Rattle.exchange_core.specs.Traces.{call_of, told}
 use Rattle.exchange_core.proofs.Leaving.{left_since}
+use Rattle.exchange_core.proofs.Naming.{named_more}
 use Rattle.exchange_core.proofs.Rejecting.{none_rejected, one_more}
-use Rattle.exchange_core.proofs.Tracing.{traces_longer}
+use Rattle.exchange_core.proofs.Tracing.{none_yet, traces_longer}
 use Rattle.exchange_core.specs.declared.resources.TaskResources.{TaskResources}
 use Rattle.exchange_core.specs.declared.retired_legs.RetiredLegs.{RetiredLegs}
 use Rattle.exchange_core.proofs.exchange.Exchange.carry_out.Goals as goal
@@ -58,6 +60,7 @@ loop-init g c = (
   none_rejected c.args.pass.now,
   none_denied c.args.pass.now c.args.work.now.work.place (starts_first (length c.args.self.now.peers) c.args.work.now.work.place
       c.requires.peer),
+  none_yet named_by c.args.pass.now,
 )
 
 pub loop-preserved : goal.loop-preserved
@@ -132,4 +135,7 @@ loop-preserved g c =
           c.args.pass.now c.loop.pass c.make-reply.new.pass c.loop.work.work c.told.new.self.work c.loop.resources.denial
           c.if-is_beginning.resources.denial need answers
           c.make-reply.ensures.noted c.loop.invariant.5 given work denial c.loop.invariant.11,
+      named_more _ _ c.in-Some-next.need c.make-reply.result c.args.pass.now c.loop.pass c.make-reply.new.pass
+          c.loop.resources.named c.if-is_beginning.resources.named c.loop.invariant.12 c.make-reply.ensures.noted
+          (named ∙ c.make-reply.ensures.resources.2),
     )

@@ -3,12 +3,14 @@ use Rattle.call_control.specs.Leases.{lease_in}
 use Rattle.call_control.specs.MediaLeft.{media_left}
 use Rattle.exchange_core.specs.Covered.{IsCovered}
 use Rattle.exchange_core.specs.Leaving.{LeftSince, leaving_of}
+use Rattle.exchange_core.specs.Names.{named_by}
 use Rattle.exchange_core.specs.Newcomers.{SpellsOpening}
 use Rattle.exchange_core.specs.Traces.{Traces, call_of}
 use Rattle.exchange_core.proofs.Denying.{DeniedSince}
 use Rattle.exchange_core.proofs.FirstSteps.{IsUnderWay}
 use Rattle.exchange_core.proofs.FirstPeers.{MayStand, OpensLeg, PlaceInPlan}
 use Rattle.exchange_core.proofs.Rejecting.{RejectedSince}
+use Rattle.exchange_core.proofs.Tracing.{LastSince}
 use Rattle.exchange_core.proofs.exchange.Exchange.carry_out.Given as goal
 
 abbrev pub invariant-loop : goal.invariant-loop
@@ -25,3 +27,4 @@ invariant-loop g l =
     × LeftSince l.given.now l.initial.pass l.pass (leaving_of l.resources.retired_legs)
     × RejectedSince l.initial.pass l.pass l.rejected
     × DeniedSince l.initial.pass l.pass l.work.work.place l.resources.denial
+    × LastSince named_by l.initial.pass l.pass l.resources.named

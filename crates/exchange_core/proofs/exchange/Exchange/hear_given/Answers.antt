@@ -10,4 +10,4 @@ returns-in-Err-clause-answer g c =
     let needs : c.in-Err.error ≡ NeedsNumber → SpellsOpening c.args.given.now.datagram =
     needs_opening g.J.LedgerSet.first_steps state.accounts.steps c.args.given.now.datagram state c.args.given.now.now
     (Err c.in-Err.error) c.in-Err.ensures.state.refused in
-    (refl, due_opening c.args.given.now.datagram c.in-Err.error needs, λ same. cc)
+    (refl, due_opening c.args.given.now.datagram c.in-Err.error needs, tt)

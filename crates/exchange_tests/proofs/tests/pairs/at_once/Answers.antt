@@ -9,18 +9,17 @@ use denote.Struct.Tuple.{TupleAt, type_at}
 use mir.Syntax.{Sym}
 use Rattle.exchange_core.proofs.Sending.{exchange_sync}
 use Rattle.exchange_tests.specs.contracts.tests.desk.Desk as desk
-use Rattle.exchange_tests.specs.contracts.tests.two_peers.Progress as progress
+use Rattle.exchange_tests.specs.contracts.tests.pairs.Pair as pair
 use Rattle.peer_accounts.specs.declared.ledger_set.LedgerSet as ledger_set
 use Rattle.std.proofs.Common.{[], ◌∷◌}
 use Rattle.std.proofs.Crossing.{crosses}
-use Rattle.std.specs.contracts.option.Option as option
 use Rattle.std.specs.declared.sync.ledger.Ledger as ledger
 use Rattle.step_log.proofs.Sending.{pass_send}
 use Rattle.exchange_tests.proofs.tests.pairs.at_once.Goals as goal
 
--- A closure that refers to a progress, the handle of the system and a desk may go to another thread. The search at the use tries
--- too little for that.
-looks_sync : (a : NamedLft) → IsSync (option.the_row (ShrRef a.mir a.lft progress.the_row))
+-- A closure that refers to the handle of the system, a desk and what the threads do may go to another thread. The search at the
+-- use tries too little for that.
+looks_sync : (a : NamedLft) → IsSync (pair.the_row a)
 looks_sync a = search (sendable, crosses) parts 8 depth 40 fits 50000
 
 module _ (J O S : RattleType) (n : ledger_set.Ghosts J.Denot O.Denot S.Denot) (o : ledger.Ghosts O.Denot)
@@ -29,16 +28,16 @@ module _ (J O S : RattleType) (n : ledger_set.Ghosts J.Denot O.Denot S.Denot) (o
   desk_send t R G of_r of_g = search (exchange_sync, pass_send, sendable, crosses) parts 8 depth 40 fits 50000
 
   -- the closure of a thread, by the name of its type
-  lent_send : (name : Sym) (a b c d e : NamedLft) (R G : RattleType) → IsSync R → IsSync G
-      → IsSend (TupleAt name (ShrRef a.mir a.lft (option.the_row (ShrRef b.mir b.lft progress.the_row))
-      ∷ ShrRef c.mir c.lft R ∷ MutRef d.mir d.lft (desk.the_row e R G J O S n o s) ∷ []))
-  lent_send name a b c d e R G of_r of_g =
-      let seen : RattleType = option.the_row (ShrRef b.mir b.lft progress.the_row) in
+  lent_send : (name : Sym) (b c d e f : NamedLft) (R G : RattleType) → IsSync R → IsSync G
+      → IsSend (TupleAt name (ShrRef c.mir c.lft R ∷ MutRef d.mir d.lft (desk.the_row e R G J O S n o s)
+      ∷ ShrRef f.mir f.lft (pair.the_row b) ∷ []))
+  lent_send name b c d e f R G of_r of_g =
+      let seen : RattleType = pair.the_row b in
       let lent : RattleType = desk.the_row e R G J O S n o s in
       let of_lent = as_row_send (row_field (MutRef d.mir d.lft lent)) (mut_send d.mir d.lft lent (desk_send e R G of_r of_g)) in
-      declared_send (type_at name (ShrRef a.mir a.lft seen ∷ ShrRef c.mir c.lft R ∷ MutRef d.mir d.lft lent ∷ [])) (
-        shr_send a.mir a.lft seen (looks_sync b),
-        (shr_send c.mir c.lft R of_r, (of_lent, tt)),
+      declared_send (type_at name (ShrRef c.mir c.lft R ∷ MutRef d.mir d.lft lent ∷ ShrRef f.mir f.lft seen ∷ [])) (
+        shr_send c.mir c.lft R of_r,
+        (of_lent, (shr_send f.mir f.lft seen (looks_sync b), tt)),
       )
 
 -- each parameter under the number that the function gives it

@@ -84,7 +84,8 @@ returns c =
       heard = each_if_ok c.full_into-heard.result said _ (of_said (made c) _ c.full_into-heard.ensures.heard);
       extends_history = tied_made (made c) (λ old new. TakesTurn old c.args.frame.now new)
           c.full_into-heard.ensures.extends_history;
-      record_full = of_said (made c) _ c.full_into-heard.ensures.record_full;
+      unrefused = of_said (made c) _ c.full_into-heard.ensures.unrefused;
+      refused = of_said (made c) _ c.full_into-heard.ensures.refused;
       none_sent = c.full_into-heard.ensures.none_sent;
       no_memory = c.full_into-heard.ensures.no_memory;
     }

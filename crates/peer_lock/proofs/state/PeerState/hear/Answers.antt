@@ -48,7 +48,7 @@ returns-clause-there g c named here =
     c.in_ok-heard.ensures.there named (subst (λ (v : PeerView). leg_at v.legs c.args.number ≡ Some named) (sym c.self.view_is)
     here)
 
-pub returns-clause-record_full : goal.returns-clause-record_full
-returns-clause-record_full g c named here =
-    c.in_ok-heard.ensures.record_full named (subst (λ (v : PeerView). leg_at v.legs c.args.number ≡ Some named)
+pub returns-clause-unrefused : goal.returns-clause-unrefused
+returns-clause-unrefused g c named here =
+    c.in_ok-heard.ensures.unrefused named (subst (λ (v : PeerView). leg_at v.legs c.args.number ≡ Some named)
     (sym c.self.view_is) here)

@@ -10,6 +10,7 @@ invariant_of-closed g c = record {
   ruled = c.self.invariant.ruled;
   queued = ap (λ (a : Accounts). a.queued) c.part-account.ensures.same ∙ c.self.invariant.queued;
   one_frame = c.self.invariant.one_frame;
+  few_of_call = c.self.invariant.few_of_call;
 }
 
 pub returns-clause-same : goal.returns-clause-same

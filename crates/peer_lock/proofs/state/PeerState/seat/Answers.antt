@@ -10,4 +10,5 @@ invariant_of-self g c = record {
       (subst (λ (v : PeerView). IsLegOf v.rules c.args.leg.state) (sym c.self.view_is) c.requires.ruled);
   queued = search rules;
   one_frame = c.self.invariant.one_frame;
+  few_of_call = c.self.invariant.few_of_call;
 }

@@ -64,4 +64,5 @@ returns c = λ i. record {
   passes = (ap (λ (plan : PlanView). plan.passes) c.self.view_is) i;
   peers = (written c ∙ drawn_in c) i;
   routes = (ap (λ (plan : PlanView). plan.routes) c.self.view_is) i;
+  avoids_return = (ap (λ (plan : PlanView). plan.avoids_return) c.self.view_is) i;
 }

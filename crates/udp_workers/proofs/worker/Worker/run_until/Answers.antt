@@ -1,7 +1,8 @@
-use Rattle.std.proofs.Common.{◌≡◌, ◌≤◌, ℕ, Bor, List, [], ◌∷◌, refl, ap, length, arith, subst, ◌∙◌, rules}
+use Rattle.std.proofs.Common.{◌≡◌, ◌≤◌, ℕ, Bor, List, [], ◌∷◌, refl, ap, length, arith, subst, sym, ◌∙◌, rules}
 use Rattle.udp_wires.specs.Parcels.{Parcel}
 use Rattle.udp_workers.specs.Handed.{GivesAll}
-use Rattle.udp_workers.specs.Intake.{InboxView, MakesTurn, Passed, TurnView}
+use Rattle.udp_workers.specs.Intake.{InboxView, Passed, TurnView}
+use Rattle.udp_workers.specs.Runs.{MakesAndReports, RunsTurns}
 use Rattle.udp_workers.specs.declared.report.TurnReport.{TurnReport}
 use Rattle.udp_workers.specs.Events.{nothing}
 use Rattle.udp_workers.proofs.CountLaws.{counts_on}
@@ -21,6 +22,24 @@ loop-made-preserved g c =
     let made = c.turn_at-end in
     let all = c.ticks_all.result in
     let view : TurnView = record { stage = c.stage-stage.result; now = c.now-time.result; challenge = c.draw.result } in
+    let run = l.invariant.intake.0 in
+    let told = g.V.Watch.told c.args.watch.now in
+    let now = passed_by (g.W.Wire.came made.new.wire) (g.W.Wire.went made.new.wire) in
+    let turned : MakesAndReports told c.args.intake c.args.exchange.now c.args.self.now.peers all view run.left
+    made.new.inbox.datagram l.tally.report.received made.new.tally.report.received l.pass made.new.pass
+    (passed_by (g.W.Wire.came l.wire) (g.W.Wire.went l.wire)) now =
+    subst (λ was. MakesAndReports told c.args.intake c.args.exchange.now c.args.self.now.peers all view was
+    made.new.inbox.datagram l.tally.report.received made.new.tally.report.received l.pass made.new.pass
+    (passed_by (g.W.Wire.came l.wire) (g.W.Wire.went l.wire)) now) (sym l.invariant.intake.1)
+    (subst (λ from. MakesAndReports told c.args.intake c.args.exchange.now c.args.self.now.peers all view l.inbox.datagram
+    made.new.inbox.datagram l.tally.report.received made.new.tally.report.received l.pass made.new.pass from now)
+    (passed_same c.pause.ensures.came c.pause.ensures.went)
+    (subst (λ peers. MakesAndReports told c.args.intake c.args.exchange.now peers all view l.inbox.datagram
+    made.new.inbox.datagram l.tally.report.received made.new.tally.report.received l.pass made.new.pass
+    (passed_by (g.W.Wire.came c.pause.new.wire) (g.W.Wire.went c.pause.new.wire)) now) l.invariant.peers
+    (subst (λ (watch : g.row.V.Denot). MakesAndReports (g.V.Watch.told watch) c.args.intake c.args.exchange.now l.self.peers all
+    view l.inbox.datagram made.new.inbox.datagram l.tally.report.received made.new.tally.report.received l.pass made.new.pass
+    (passed_by (g.W.Wire.came c.pause.new.wire) (g.W.Wire.went c.pause.new.wire)) now) l.invariant.watch made.ensures.turn))) in
     let few : length l.self.peers ≤ 32 = subst (λ (peers : List ℕ). length peers ≤ 32) made.ensures.peers made.ensures.few in
     record {
       received = omega arith;
@@ -46,26 +65,25 @@ loop-made-preserved g c =
       place = made.ensures.place ∙ l.invariant.place;
       peers = made.ensures.peers ∙ l.invariant.peers;
       intake = (
-        view ∷ l.invariant.intake.0,
-        (
-          l.pass,
-          l.inbox.datagram,
-          l.tally.report.received,
-          all,
-          passed_by (g.W.Wire.came l.wire) (g.W.Wire.went l.wire),
-          l.invariant.intake.1,
-          must_tick c.args.intake l.before c.now-time.result l.end.was_full all l.invariant.intake.0 l.invariant.intake.2
-              c.ticks_all.ensures,
-          subst (λ from. MakesTurn c.args.intake c.args.exchange.now c.args.self.now.peers all view l.inbox.datagram
-              made.new.inbox.datagram l.tally.report.received made.new.tally.report.received l.pass made.new.pass
-              from (passed_by (g.W.Wire.came made.new.wire) (g.W.Wire.went made.new.wire)))
-              (passed_same c.pause.ensures.came c.pause.ensures.went)
-              (subst (λ peers. MakesTurn c.args.intake c.args.exchange.now peers all view l.inbox.datagram made.new.inbox.datagram
-              l.tally.report.received made.new.tally.report.received l.pass made.new.pass
-              (passed_by (g.W.Wire.came c.pause.new.wire) (g.W.Wire.went c.pause.new.wire))
-              (passed_by (g.W.Wire.came made.new.wire) (g.W.Wire.went made.new.wire)))
-              l.invariant.peers made.ensures.turn),
-        ),
+        record {
+          turns = view ∷ run.turns;
+          left = made.new.inbox.datagram;
+          all = record {
+            was = run.left;
+            counted = l.tally.report.received;
+            mid = l.pass;
+            between = passed_by (g.W.Wire.came l.wire) (g.W.Wire.went l.wire);
+            before = run.all;
+            all = all;
+            must = must_tick c.args.intake l.before c.now-time.result l.end.was_full all run.turns l.invariant.intake.2
+                c.ticks_all.ensures;
+            makes = turned.makes;
+          };
+          reports = (run.reports, turned.reports);
+          moments = (l.moments, run.moments, c.now-time.ensures);
+          challenges = (l.challenges, run.challenges, c.draw.ensures);
+        },
+        refl,
         refl,
       );
       turns = omega arith;
@@ -94,7 +112,23 @@ loop-made-init g c =
       handed = gives_none (g.V.Watch.given c.args.watch.now) c.args.pass.now;
       place = refl;
       peers = refl;
-      intake = ([], (ap (λ (inbox : InboxView). inbox.datagram) c.new-inbox.ensures, received, refl, refl), refl);
+      intake = (
+        record {
+          turns = [];
+          left = c.new-inbox.result.datagram;
+          all = record {
+            none_left = ap (λ (inbox : InboxView). inbox.datagram) c.new-inbox.ensures;
+            none_received = received;
+            same = refl;
+            passed_nothing = refl;
+          };
+          reports = tt;
+          moments = refl;
+          challenges = refl;
+        },
+        refl,
+        refl,
+      );
       turns = omega arith;
     }
 
@@ -115,3 +149,15 @@ turn_at-end-requires-clause-asked c = search rules
 
 pub returns-clause-turns : goal.returns-clause-turns
 returns-clause-turns c = search rules
+
+pub returns-then-eq-clause-intake : goal.returns-then-eq-clause-intake
+returns-then-eq-clause-intake g c =
+    let l = c.loop-made in
+    subst (λ (end : Passed). RunsTurns (g.V.Watch.told c.args.watch.now) g.M.TurnClock.gave g.C.Challenges.gave
+    c.args.context.moments.now l.moments c.args.context.challenges.now l.challenges c.args.intake c.args.exchange.now
+    c.args.self.now.peers l.tally.report.received c.args.pass.now l.pass
+    (passed_by (g.W.Wire.came c.args.wire.now) (g.W.Wire.went c.args.wire.now)) end)
+    (sym (passed_same c.pause.ensures.came c.pause.ensures.went)) l.invariant.intake.0
+
+pub returns-clause-intake : goal.returns-clause-intake
+returns-clause-intake g c = c.loop-made.invariant.intake.0

@@ -1,8 +1,9 @@
-use Rattle.std.proofs.Common.{◌≡◌, ◌+◌, ◌*◌, ◌≤◌, List}
+use Rattle.std.proofs.Common.{◌≡◌, ◌+◌, ◌*◌, ◌≤◌}
 use Rattle.udp_wires.specs.Counts.{RisesBy}
 use Rattle.udp_workers.specs.Events.{CountsSends, nothing}
 use Rattle.udp_workers.specs.Handed.{GivesAll}
-use Rattle.udp_workers.specs.Intake.{MakesAllTurns, TurnView, last_moment}
+use Rattle.udp_workers.specs.Intake.{last_moment}
+use Rattle.udp_workers.specs.Runs.{RunsTurns}
 use Rattle.udp_workers.specs.Ticked.{IsLater}
 use Rattle.udp_workers.proofs.worker.Worker.run_until.Given as goal
 
@@ -23,9 +24,10 @@ invariant-loop-made g l = record {
   handed : GivesAll (g.V.Watch.given l.watch) l.fn.pass l.pass;
   place : l.self.place ≡ l.fn.self.place;
   peers : l.self.peers ≡ l.fn.self.peers;
-  intake : (turns : List TurnView) × MakesAllTurns l.intake l.exchange l.fn.self.peers turns l.inbox.datagram
-      l.tally.report.received l.fn.pass l.pass
+  intake : (run : RunsTurns (g.V.Watch.told l.watch) g.M.TurnClock.gave g.C.Challenges.gave l.fn.context.moments.now l.moments
+      l.fn.context.challenges.now l.challenges l.intake l.exchange l.fn.self.peers l.tally.report.received l.fn.pass l.pass
       (record { came = g.W.Wire.came l.fn.wire; went = g.W.Wire.went l.fn.wire })
-      (record { came = g.W.Wire.came l.wire; went = g.W.Wire.went l.wire }) × (l.before ≡ last_moment turns);
+      (record { came = g.W.Wire.came l.wire; went = g.W.Wire.went l.wire }))
+      × (run.left ≡ l.inbox.datagram) × (l.before ≡ last_moment run.turns);
   turns : RisesBy l.fn.self.turns l.self.turns l.made;
 }

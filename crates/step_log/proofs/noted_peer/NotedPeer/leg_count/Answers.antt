@@ -1,0 +1,7 @@
+use Rattle.std.proofs.Common.{sym}
+use Rattle.step_log.proofs.Noting.{noted_as}
+use Rattle.step_log.proofs.noted_peer.NotedPeer.leg_count.Goals as goal
+
+pub returns-clause-noted : goal.returns-clause-noted
+returns-clause-noted g c = rw (sym c.self.view_is, sym c.pass.view_is) (noted_as c.pass.inside.credits c.push.ensures.begun
+    c.push.ensures.items)
