@@ -5,6 +5,9 @@ import time
 # The seconds after which a wait for a state gives up. It bounds a program that hangs, however slow the machine is.
 PATIENCE = 60
 
+# The seconds by which a loaded machine may exceed a time that the program promises.
+LOAD = 15
+
 
 class Failed(Exception):
     """A check that failed, or that can't continue. The message says which."""
