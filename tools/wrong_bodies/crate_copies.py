@@ -4,15 +4,15 @@ A function is proved from its own body and from the contracts of the functions t
 functions that aren't changed have no body there, and a hole for a proof, so that they aren't proved again: `rt ci` proves
 them.
 """
-import os
 import re
-import shutil
-from pathlib import Path
+from functools import cache
+from pathlib import Path, PurePosixPath
 
 from .answers import HOLE, UNOFFERED, answers_text, only_answer_to, parts_of
 from .copies import spoilt, with_edits
-from .crates import PARTS, files_below
+from .crates import sources_in
 from .functions import module_of, modules_of_types, statements_in
+from .pages import PageError
 
 # The greatest number of bodies in one copy: each takes memory, and each check takes up to 95 seconds apart from its bodies.
 MOST_BODIES = 128
@@ -27,13 +27,12 @@ class CrateCopy:
         self.crate = crate
         self.keeps_answers = keeps_answers
         self.functions = []
-        self.texts = {}
 
     def text_of(self, file):
         """Returns the text of a file of the crate, without changes."""
-        if file not in self.texts:
-            self.texts[file] = (self.crate.folder / file).read_text(encoding="utf-8")
-        return self.texts[file]
+        if file not in self.crate.texts:
+            raise PageError(f"{self.crate.name} has no file {file}")
+        return self.crate.texts[file]
 
     def edits(self):
         """Returns all its edits."""
@@ -61,47 +60,44 @@ class CrateCopy:
 
     def write(self, folder):
         """Writes the copy into a folder."""
-        room = Path(folder)
-        for part in PARTS:
-            if (self.crate.folder / part).is_dir():
-                shutil.copytree(self.crate.folder / part, room / part)
+        for file, text in self.files().items():
+            path = Path(folder) / file
+            path.parent.mkdir(parents=True, exist_ok=True)
+            path.write_text(text, encoding="utf-8")
+
+    def files(self):
+        """Returns the texts of the copy's files by their paths."""
+        files = dict(self.crate.texts)
         for file in {edit.file for edit in self.edits()}:
-            edits = [edit for edit in self.edits() if edit.file == file]
-            (room / file).write_text(with_edits(self.text_of(file), edits), encoding="utf-8")
+            files[file] = with_edits(self.text_of(file), [edit for edit in self.edits() if edit.file == file])
         for function in self.functions:
-            self.write_proof(room, function)
-        self.leave_out_others(room)
+            self.put_proof(files, function)
+        self.leave_out_others(files)
+        return files
 
-    def write_proof(self, room, function):
-        """Writes what the proof of a changed function has: its files, and the answers of its body."""
-        original = proof_folder(room, function.body.function)
-        if function.is_second() and original.is_dir():
-            self.copy_proof(room, function)
+    def put_proof(self, files, function):
+        """Puts what the proof of a changed function has: its files, and the answers of its body."""
+        if function.is_second():
+            self.copy_proof(files, function)
         elif not self.keeps_answers:
-            (original / "Answers.antt").unlink(missing_ok=True)
-        folder = proof_folder(room, function.path)
+            files.pop(answers_of(function.path), None)
+        folder = proof_folder(function.path)
         if function.body.names_goals():
-            self.write_answers(folder, function)
-        elif function.body.changes_text() and not (folder / "Proof.antt").is_file():
-            write_unoffered(folder)
+            file = answers_of(function.path)
+            files[file] = self.chosen_answers(function, files.get(file, ""))
+        elif function.body.changes_text() and f"{folder}/Proof.antt" not in files:
+            # Because of the lemma that isn't proved no answers are offered.
+            file = answers_of(function.path)
+            files[file] = files.get(file, "") + UNOFFERED
 
-    def copy_proof(self, room, function):
+    def copy_proof(self, files, function):
         """Copies the files of a function's proof for its second copy, with that one's name."""
-        folder = proof_folder(room, function.path)
-        folder.mkdir()
+        original = proof_folder(function.body.function)
         before = rf"\b{re.escape(dotted(function.body.function))}\b"
-        for path in files_in(proof_folder(room, function.body.function)):
-            if self.keeps_answers or path.name != "Answers.antt":
-                text = re.sub(before, dotted(function.path), path.read_text(encoding="utf-8"))
-                (folder / path.name).write_text(text, encoding="utf-8")
-
-    def write_answers(self, folder, function):
-        """Writes the answers for the goals that a body names: the written answer of the function's proof to the page's goal,
-        if the page names no tactic."""
-        folder.mkdir(parents=True, exist_ok=True)
-        file = folder / "Answers.antt"
-        written = file.read_text(encoding="utf-8") if file.is_file() else ""
-        file.write_text(self.chosen_answers(function, written), encoding="utf-8")
+        for path in files_in(files, original):
+            if self.keeps_answers or not path.endswith("/Answers.antt"):
+                copied = proof_folder(function.path) + path.removeprefix(original)
+                files[copied] = re.sub(before, dotted(function.path), files[path])
 
     def chosen_answers(self, function, written):
         """Returns the text of the answers for a changed function, whose proof has these written ones."""
@@ -113,36 +109,43 @@ class CrateCopy:
         module = f"{self.crate.name}.proofs.{dotted(function.path)}"
         return answers_text(body, function.attribute, self.crate.name, module)
 
-    def leave_out_others(self, room):
+    def leave_out_others(self, files):
         """Leaves out the statements and the proof of each function that isn't changed."""
-        texts = {os.path.relpath(path, room): path.read_text(encoding="utf-8") for path in files_below(room / "src")}
-        modules = modules_of_types(texts)
-        for file, text in texts.items():
-            for statements in reversed(statements_in(text, module_of(file), modules)):
-                if self.leaves_out(room, file, statements, text):
+        sources = sources_in(files)
+        modules = modules_of_types(sources)
+        folders = folders_in(files)
+        for file, text in sources.items():
+            for statements in reversed(self.statements_in(file, text, modules)):
+                if self.leaves_out(folders, file, statements, text):
                     text = text[: statements.start] + "unreachable!()" + text[statements.end :]
-                    self.write_hole(room, statements.path)
-            (room / file).write_text(text, encoding="utf-8")
+                    self.put_hole(files, statements.path)
+            files[file] = text
 
-    def leaves_out(self, room, file, statements, text):
-        """Returns whether a function of the copy isn't changed, and can do without its statements."""
+    def statements_in(self, file, text, modules):
+        """Returns the statements of the functions of a source of the copy. The crate keeps those of an unchanged one."""
+        if text is self.crate.texts.get(file) and modules == self.crate.modules:
+            return self.crate.statements[file]
+        return statements_in(text, module_of(file), modules)
+
+    def leaves_out(self, folders, file, statements, text):
+        """Returns whether a function of the copy, which has these folders, isn't changed, and can do without its
+        statements."""
         *owner, name = statements.path.split("::")
         if name in {function.path.split("::")[-1] for function in self.functions}:
             return False
         # A function with a closure that has a separate proof stays as it is.
-        if proof_folder(room, "::".join([*owner, "fn", name])).is_dir():
+        if proof_folder("::".join([*owner, "fn", name])) in folders:
             return False
         changed = [edit.new for edit in self.edits() if edit.file == file]
         return not any(new in text[statements.start : statements.end] for new in changed)
 
-    def write_hole(self, room, path):
-        """Writes a hole in place of the proof of a function."""
-        folder = proof_folder(room, path)
-        folder.mkdir(parents=True, exist_ok=True)
+    def put_hole(self, files, path):
+        """Puts a hole in place of the proof of a function."""
+        folder = proof_folder(path)
         for name in ("Answers.antt", "Invariants.antt"):
-            (folder / name).unlink(missing_ok=True)
-        hole = HOLE.format(module=f"{self.crate.name}.proofs.{dotted(path)}", name=path.split("::")[-1])
-        (folder / "Proof.antt").write_text(hole, encoding="utf-8")
+            files.pop(f"{folder}/{name}", None)
+        module = f"{self.crate.name}.proofs.{dotted(path)}"
+        files[f"{folder}/Proof.antt"] = HOLE.format(module=module, name=path.split("::")[-1])
 
 
 def dotted(path):
@@ -150,18 +153,27 @@ def dotted(path):
     return path.replace("::", ".")
 
 
-def proof_folder(room, path):
-    """Returns the folder of a function's proof in a copy of its crate."""
-    return room / "proofs" / path.replace("::", "/")
+def proof_folder(path):
+    """Returns the folder of a function's proof, below that of its crate."""
+    return f"proofs/{path.replace('::', '/')}"
 
 
-def files_in(folder):
-    """Returns the files of a folder, without those of the folders in it."""
-    return [path for path in folder.iterdir() if path.is_file()]
+def answers_of(path):
+    """Returns the file of the written answers of a function."""
+    return f"{proof_folder(path)}/Answers.antt"
 
 
-def write_unoffered(folder):
-    """Adds the lemma that isn't proved to the answers of a function all of whose goals are searched."""
-    folder.mkdir(parents=True, exist_ok=True)
-    with (folder / "Answers.antt").open("a", encoding="utf-8") as answers:
-        answers.write(UNOFFERED)
+def files_in(files, folder):
+    """Returns those of some files that are in a folder, without those of the folders in it."""
+    return [file for file in files if file.rpartition("/")[0] == folder]
+
+
+@cache
+def folders_above(file):
+    """Returns the folders that a file is in."""
+    return {str(folder) for folder in PurePosixPath(file).parents}
+
+
+def folders_in(files):
+    """Returns the folders that have some of these files, and the folders that have those."""
+    return set().union(*map(folders_above, files))

@@ -3,6 +3,8 @@ import os
 from functools import cached_property
 from pathlib import Path
 
+from .functions import module_of, modules_of_types, statements_in
+
 TOP = Path(__file__).resolve().parents[2]
 # The folders of a crate that the prover reads.
 PARTS = ("src", "specs", "proofs")
@@ -25,10 +27,31 @@ class Crate:
         return found
 
     @cached_property
+    def texts(self):
+        """The texts of the files that the prover reads of it, by their paths, as they were when they were first asked for."""
+        files = sorted(path for part in PARTS for path in files_below(self.folder / part))
+        return {str(path.relative_to(self.folder)): path.read_text(encoding="utf-8") for path in files}
+
+    @cached_property
+    def modules(self):
+        """The modules of its types."""
+        return modules_of_types(sources_in(self.texts))
+
+    @cached_property
+    def statements(self):
+        """The statements of the functions of each of its sources."""
+        sources = sources_in(self.texts)
+        return {file: statements_in(text, module_of(file), self.modules) for file, text in sources.items()}
+
+    @cached_property
     def line_count(self):
         """The number of lines that the prover reads of it."""
-        files = [path for part in PARTS for path in files_below(self.folder / part)]
-        return sum(path.read_bytes().count(b"\n") for path in files)
+        return sum(text.count("\n") for text in self.texts.values())
+
+
+def sources_in(texts):
+    """Returns those of a crate's texts that are sources."""
+    return {file: text for file, text in texts.items() if file.startswith("src/")}
 
 
 def files_below(folder):

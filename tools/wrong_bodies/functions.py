@@ -4,6 +4,7 @@ A function ends at the first line that has a closing brace at the indent of its 
 and in comments don't matter.
 """
 import re
+from functools import lru_cache
 from typing import NamedTuple
 
 VISIBILITY = r"(?:pub(?:\(\w+\))? )?"
@@ -58,12 +59,18 @@ def module_of(file):
     return names[:-1] if names[-1] in ("lib", "main", "mod") else names
 
 
+@lru_cache(maxsize=1024)
+def types_in(text):
+    """Returns the names of the types of a file."""
+    return re.findall(rf"^{VISIBILITY}(?:struct|enum) (\w+)", text, re.M)
+
+
 def modules_of_types(texts):
     """Returns the modules of the types of some files by the types' names, or None for a name that two types have."""
     modules = {}
     for file, text in texts.items():
-        for found in re.finditer(rf"^{VISIBILITY}(?:struct|enum) (\w+)", text, re.M):
-            modules[found[1]] = None if found[1] in modules else module_of(file)
+        for name in types_in(text):
+            modules[name] = None if name in modules else module_of(file)
     return modules
 
 

@@ -1,73 +1,64 @@
 """Keeps outside the repository which bodies the prover has refused on this machine, so that the next run needn't try them.
 
-A refusal is kept with a digest of all that it depends on: the toolchain, this program, the body, the crate's row and files,
-and those of the crates below. Another digest means that the body is tried again. A file that can't be read or written counts
-for nothing.
+A refusal is kept under the digest of its inputs (`inputs`), so another state of the sources has other ones. A file that can't
+be read or written counts for nothing, and so does one that another prover of the same name has left.
 """
-import hashlib
 import json
 import os
 import tempfile
 from pathlib import Path
+from typing import NamedTuple
 
 from .checks import KIT
-from .crates import PARTS, files_below
 
 # A file for each crate.
-FOLDER = Path(os.environ.get("XDG_CACHE_HOME") or Path.home() / ".cache") / "naxurbeko/wrong_bodies"
+FOLDER = Path(os.environ.get("XDG_CACHE_HOME") or Path.home() / ".cache") / "naxurbeko/refusals"
+# The refusals that are kept of a crate, those of earlier states of its sources among them.
+MOST = 2000
 
 
-def digest_of(value):
-    """Returns the SHA-256 of what Python prints for a value."""
-    return hashlib.sha256(repr(value).encode()).hexdigest()
+class Refusal(NamedTuple):
+    """Why a body was refused, and the seconds that it took."""
+
+    reason: str
+    seconds: float
 
 
-def contents_of(folder):
-    """Returns the paths and the octets of the files below a folder."""
-    return [(str(path.relative_to(folder)), path.read_bytes()) for path in sorted(files_below(folder))]
-
-
-def prover_digest():
-    """Returns a digest of the toolchain and of this program."""
-    prover = (KIT / "bin/rattle").stat()
-    programs = [path.read_bytes() for path in sorted(Path(__file__).parent.glob("*.py"))]
-    return digest_of([(KIT / "KIT-ID").read_bytes(), prover.st_size, prover.st_mtime_ns, programs])
-
-
-def crate_digest(crate):
-    """Returns a digest of all that the prover reads for a crate."""
-    rows = [(it.name, [other.name for other in it.dependencies], it.libraries) for it in [*crate.below(), crate]]
-    files = [contents_of(it.folder / part) for it in [*crate.below(), crate] for part in PARTS]
-    return digest_of([rows, files])
+def prover_here():
+    """Returns the size and the time of this machine's prover, which a later one of the same name doesn't share."""
+    found = (KIT / "bin/rattle").stat()
+    return [found.st_size, found.st_mtime_ns]
 
 
 class KeptRefusals:
-    """The refusals of a crate's bodies that are kept, by the bodies' digests."""
+    """The refusals of a crate's bodies that are kept, by the digests of their inputs."""
 
     def __init__(self, crate, prover):
         self.file = FOLDER / f"{crate.name}.json"
-        self.beneath = digest_of([prover, crate_digest(crate)])
-        self.reasons = self.read()
+        self.prover = prover
+        self.refusals = self.read()
 
     def read(self):
-        """Returns the reasons in the crate's file, if all else on which they depend is as it was."""
+        """Returns the refusals in the crate's file, if this prover has made them."""
         try:
-            beneath, reasons = json.loads(self.file.read_text(encoding="utf-8"))
-        except (OSError, TypeError, ValueError):
+            prover, refusals = json.loads(self.file.read_text(encoding="utf-8"))
+            return {digest: Refusal(*it) for digest, it in refusals.items()} if prover == self.prover else {}
+        except (AttributeError, OSError, TypeError, ValueError):
             return {}
-        return reasons if beneath == self.beneath else {}
 
-    def reason(self, body):
-        """Returns why a body was refused, or None if that isn't kept."""
-        return self.reasons.get(digest_of(body))
+    def get(self, digest):
+        """Returns the refusal under a digest, or None if it isn't kept."""
+        return self.refusals.get(digest)
 
-    def keep(self, refused):
-        """Adds bodies that are refused, each with the reason."""
-        self.reasons |= {digest_of(body): reason for body, reason in refused}
+    def keep(self, refusals):
+        """Adds refusals by their digests, to those that other runs have added meanwhile."""
+        others = {digest: it for digest, it in self.read().items() if digest not in refusals}
+        # The last ones are dropped last.
+        self.refusals = dict([*others.items(), *refusals.items()][-MOST:])
         try:
             self.file.parent.mkdir(parents=True, exist_ok=True)
             with tempfile.NamedTemporaryFile("w", dir=self.file.parent, encoding="utf-8", delete=False) as written:
-                json.dump([self.beneath, self.reasons], written)
+                json.dump([self.prover, self.refusals], written)
             # Nobody reads half of a file.
             os.replace(written.name, self.file)
         except OSError:

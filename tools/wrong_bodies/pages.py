@@ -113,14 +113,20 @@ def pages_of(crate):
     return sorted(path for path in folder.iterdir() if path.name.endswith(".md")) if folder.is_dir() else []
 
 
-def bodies_of(crate):
-    """Returns the wrong bodies of a crate's pages."""
-    found = []
+def bodies_by_page(crate):
+    """Returns the wrong bodies of each of a crate's pages, by the page's name without its ending."""
+    found = {}
     for path in pages_of(crate):
-        found += bodies_on(f"{crate.name}/must-fail/{path.name}", path.read_text(encoding="utf-8"))
-    if len({body.name for body in found}) != len(found):
+        found[path.stem] = bodies_on(f"{crate.name}/must-fail/{path.name}", path.read_text(encoding="utf-8"))
+    names = [body.name for bodies in found.values() for body in bodies]
+    if len({*names}) != len(names):
         raise PageError(f"{crate.name}: two wrong bodies have one name")
     return found
+
+
+def bodies_of(crate):
+    """Returns the wrong bodies of a crate's pages."""
+    return [body for bodies in bodies_by_page(crate).values() for body in bodies]
 
 
 def reference_to(body):

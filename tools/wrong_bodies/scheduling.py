@@ -29,14 +29,13 @@ class Selection:
 
 @dataclass
 class Outcome:
-    """The result for a body: why it is refused (None if it isn't), the changed function, what the prover printed, the seconds
-    that it took, and whether an earlier run has it."""
+    """The result for a body: why it is refused (None if it isn't), the changed function, what the prover printed, and the
+    seconds that it took."""
 
     function: SpoiltFunction
     reason: str | None
     text: str
     seconds: float
-    is_kept: bool = False
 
 
 def copies_for(crate, bodies, keeps_answers=True):

@@ -86,6 +86,8 @@ class Commands(unittest.TestCase):
         self.assertEqual(copy.read_text(encoding="utf-8"), "")
         source = self.crates["low"].folder / "src/lib.rt"
         source.write_text(source.read_text(encoding="utf-8").replace("first", "second"), encoding="utf-8")
+        # The next run reads the crates again.
+        self.crates = crates_in("low: md5\nhigh: low hex\n", source.parents[2])
         self.command()
         self.assertIn("fn second", copy.read_text(encoding="utf-8"))
 

@@ -42,6 +42,15 @@ def ring_crate(test):
     return Crate("ring", room.name)
 
 
+def crate_with_page(test):
+    """Returns the crate `ring` with the bodies of golden/copied.txt on its page."""
+    crate = ring_crate(test)
+    page = crate.folder / "must-fail/ring.md"
+    page.parent.mkdir()
+    page.write_text(golden("copied.txt"), encoding="utf-8")
+    return crate
+
+
 def tree_text(folder):
     """Returns the files of a folder as one text, each under its path."""
     paths = sorted(path for path in Path(folder).rglob("*") if path.is_file())

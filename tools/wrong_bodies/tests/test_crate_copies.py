@@ -8,7 +8,7 @@ from unittest import mock
 from support import golden, ring_crate, tree_text
 from wrong_bodies import crate_copies
 from wrong_bodies.crate_copies import CrateCopy
-from wrong_bodies.pages import Attempt, Difference, bodies_on
+from wrong_bodies.pages import Attempt, Difference, PageError, bodies_on
 
 BODIES = {body.name: body for body in bodies_on("copied", golden("copied.txt"))}
 
@@ -86,9 +86,17 @@ class Written(CopyTest):
         self.assertNotIn("unoffered", self.written(copy))
 
     def test_function_with_the_proof_of_a_closure_keeps_its_statements(self):
-        (self.crate.folder / "proofs/ring/fn/first").mkdir(parents=True)
+        proof = self.crate.folder / "proofs/ring/fn/first/closure/Answers.antt"
+        proof.parent.mkdir(parents=True)
+        proof.write_text("pub octets : Type 0\n", encoding="utf-8")
         text = self.written(self.copy_with(BODIES["always_pushed"]), "src")
         self.assertIn("=> Some(*first)", text)
+
+
+    def test_file_that_is_not_there(self):
+        body = replace(BODIES["counts_none"], differences=(Difference("src/none.rt", "a", "b"),))
+        with self.assertRaisesRegex(PageError, "^ring has no file src/none.rt$"):
+            CrateCopy(self.crate).add(body)
 
 
 class Sharing(CopyTest):

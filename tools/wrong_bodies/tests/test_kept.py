@@ -1,80 +1,70 @@
 """Tests of kept.py."""
 import tempfile
 import unittest
-from dataclasses import replace
 from pathlib import Path
 from unittest import mock
 
-from support import golden, ring_crate, write_ring
+from support import ring_crate
 from wrong_bodies import kept
-from wrong_bodies.crates import Crate
-from wrong_bodies.kept import KeptRefusals
-from wrong_bodies.pages import bodies_on
+from wrong_bodies.kept import KeptRefusals, Refusal
 
-BODY, OTHER = bodies_on("copied", golden("copied.txt"))[:2]
+ONE, OTHER = Refusal("no proof", 1.5), Refusal("another", 0.0)
 
 
 class Kept(unittest.TestCase):
-    """Refusals of bodies of the crate `ring`, above the crate `pearl`."""
+    """Refusals of bodies of the crate `ring`."""
 
     def setUp(self):
         room = tempfile.TemporaryDirectory()
         self.addCleanup(room.cleanup)
         self.crate = ring_crate(self)
-        self.below = Crate("pearl", f"{room.name}/pearl")
-        write_ring(self.below.folder)
-        self.crate.dependencies = [self.below]
         self.folder = Path(room.name) / "kept"
         change = mock.patch.object(kept, "FOLDER", self.folder)
         change.start()
         self.addCleanup(change.stop)
 
-    def refusals(self, prover="prover"):
+    def refusals(self, prover=(1, 2)):
         """Returns what is kept of the crate."""
-        return KeptRefusals(self.crate, prover)
+        return KeptRefusals(self.crate, [*prover])
 
     def test_nothing_is_kept_at_first(self):
-        self.assertIsNone(self.refusals().reason(BODY))
+        self.assertIsNone(self.refusals().get("a"))
 
     def test_later_runs_have_it(self):
-        self.refusals().keep([(BODY, "no proof")])
-        self.assertEqual(self.refusals().reason(BODY), "no proof")
-        self.assertIsNone(self.refusals().reason(OTHER))
+        self.refusals().keep({"a": ONE})
+        self.assertEqual(self.refusals().get("a"), ONE)
+        self.assertIsNone(self.refusals().get("b"))
 
-    def test_bodies_are_added(self):
-        self.refusals().keep([(BODY, "one")])
-        self.refusals().keep([(OTHER, "other")])
-        self.assertEqual([self.refusals().reason(it) for it in (BODY, OTHER)], ["one", "other"])
+    def test_refusals_are_added(self):
+        first, second = self.refusals(), self.refusals()
+        first.keep({"a": ONE})
+        second.keep({"b": OTHER})
+        self.assertEqual([self.refusals().get(it) for it in "ab"], [ONE, OTHER])
+        self.assertEqual(second.get("a"), ONE)
 
-    def test_anything_that_changes(self):
-        self.refusals().keep([(BODY, "no proof")])
-        self.assertIsNone(self.refusals("another prover").reason(BODY))
-        for body in (replace(BODY, goal="other"), replace(BODY, differences=OTHER.differences)):
-            self.assertIsNone(self.refusals().reason(body))
-        for crate in (self.crate, self.below):
-            for name in ("src/lib.rt", "specs/Rings.antt", "proofs/Rings.antt"):
-                path = crate.folder / name
-                text = path.read_text(encoding="utf-8")
-                path.write_text(text + "\n", encoding="utf-8")
-                self.assertIsNone(self.refusals().reason(BODY), path)
-                path.write_text(text, encoding="utf-8")
-                self.assertEqual(self.refusals().reason(BODY), "no proof")
-        self.crate.libraries = ["md5"]
-        self.assertIsNone(self.refusals().reason(BODY))
+    def test_the_latest_stay(self):
+        with mock.patch.object(kept, "MOST", 2):
+            for digest in "abac":
+                self.refusals().keep({digest: ONE})
+        self.assertEqual([*self.refusals().refusals], ["a", "c"])
+
+    def test_another_prover(self):
+        self.refusals().keep({"a": ONE})
+        self.assertIsNone(self.refusals((1, 3)).get("a"))
 
     def test_file_that_is_damaged(self):
-        self.refusals().keep([(BODY, "no proof")])
-        for text in ("", "[", "7", "{}", "[1, 2, 3]"):
+        self.refusals().keep({"a": ONE})
+        for text in ("", "[", "7", "{}", "[1, 2, 3]", "[[1, 2], 3]", '[[1, 2], {"a": 3}]', '[[1, 2], {"a": [3]}]'):
             (self.folder / "ring.json").write_text(text, encoding="utf-8")
-            self.assertIsNone(self.refusals().reason(BODY), text)
+            self.assertIsNone(self.refusals().get("a"), text)
 
     def test_folder_that_can_not_be_written(self):
         self.folder.write_text("no folder", encoding="utf-8")
-        self.refusals().keep([(BODY, "no proof")])
-        self.assertIsNone(self.refusals().reason(BODY))
+        self.refusals().keep({"a": ONE})
+        self.assertIsNone(self.refusals().get("a"))
 
     def test_toolchain(self):
-        self.assertEqual(kept.prover_digest(), kept.prover_digest())
+        self.assertEqual(kept.prover_here(), kept.prover_here())
 
 
 if __name__ == "__main__":
