@@ -109,7 +109,8 @@ def check_wrong_bodies(documents):
     section = documents.section(name, "## From a promise to a wrong body")
     words = re.findall(r"[` ](\w+)/(\w+)`?(?: \||\n|`;|$|`\.)", section)
     found = [f"{crate}/{body}" for crate, body in words if crate in crates()]
-    return [f"{name}: no page has {it}" for it in found if it not in bodies()] or ([] if found else [f"{name} names no wrong body"])
+    unknown = [f"{name}: no page has {it}" for it in found if it not in bodies()]
+    return unknown or ([] if found else [f"{name} names no wrong body"])
 
 
 def check_promises(documents):

@@ -35,17 +35,17 @@ def known(path, name):
 HISTORY, PACKER, ROOM = "seq_window/src/history.rt", "trunk_packer/src/packer.rt", "leg_machine/src/record_room.rt"
 REQUEST, CLIENTS, INTAKE = "control_requests/src/request.rt", "control_server/src/clients.rt", "udp_workers/src/intake.rt"
 FRAMES, SOCKETS, TEXTS = "iax_frames/src/reading.rt", "worker_setup/src/sockets.rt", "peer_plan/src/reading/texts.rt"
-RUNNING, TELLING, ESTIMATES = "udp_workers/src/running.rt", "service_log/src/telling.rt", "plan_report/src/estimates.rt"
+RUNNING, TELLING, ESTIMATES = "udp_workers/src/running.rt", "service_log/src/log_state.rt", "plan_report/src/estimates.rt"
 DIGITS, SECRET, CHALLENGE = "worker_setup/src/digits.rt", "call_signals/src/rules.rt", "call_auth/src/challenge.rt"
 # A unit, the words, and the place of the value: a source with a constant or a pattern, how often it is taken, and what is added.
 TABLE = (
     ("octets", r"# octets of body|body has more than #", REQUEST, "BODY_LIMIT"),
     ("octets", r"# octets or \d+ fields|head has more than #|# octets of head", REQUEST, "HEAD_LIMIT"),
     ("octets", r"# mib of answers", CLIENTS, "KEPT"),
-    ("octets", r"answer has more than #", "control_client/src/asking.rt", "MOST"),
+    ("octets", r"answer has more than #", "control_requests/src/client/asking.rt", "MOST"),
     ("octets", r"a pipe or a device.*#", "exchange_main/src/plans.rt", "MOST_PIPED"),
     ("octets", r"is empty or has more than #", "control_requests/src/placing.rt", "NUMBER_LIMIT"),
-    ("octets", r"badnumber.*more than #", "exchange_core/src/outside.rt", r"text\.len\(\) > (\d+)"),
+    ("octets", r"badnumber.*more than #", "exchange_core/src/calls.rt", r"text\.len\(\) > (\d+)"),
     (
         "octets",
         r"path has at most #|this path, at most #|too long`: it has more than #",
@@ -56,7 +56,7 @@ TABLE = (
     ),
     ("octets", r"share # mib|asks for # mib", SOCKETS, "WORKER_ROOM"),
     ("octets", r"# kib", SOCKETS, "SOCKET_ROOM"),
-    ("octets", r"more than # octets is left out", "packet_capture/src/packet.rt", "MOST_PAYLOAD"),
+    ("octets", r"more than # octets is left out", "replay_views/src/capture/packet.rt", "MOST_PAYLOAD"),
     ("octets", r"toolong` \| more than #|that comes|comes in", "peer_lock/src/arrivals.rt", r"datagram\.octets\.len\(\) > (\d+)"),
     (
         "octets",
@@ -105,15 +105,18 @@ TABLE = (
     ("octets", r"has more than # mib", "service_state/src/socket_table.rt", "LIMIT"),
     ("ms", r"read every # seconds", "service_state/src/counting.rt", "REST_MS", 100),
     ("ms", r"kill, # seconds after", "../contrib/exchange_main-run", r"\(\(drain \+ (\d+)\)\)", 1000),
-    ("octets", r"the last # octets", "service_log/src/ends_told.rt", "LAST"),
+    ("octets", r"the last # octets", "service_log/src/end_lines.rt", "LAST"),
     ("ms", r"closed # seconds|closed.*within #", "control_server/src/client.rt", "CLIENT_MS"),
-    ("ms", r"doesn't answer`, within #", "control_client/src/asking.rt", "SECONDS", 1000),
+    ("ms", r"doesn't answer`, within #", "control_requests/src/client/asking.rt", "SECONDS", 1000),
     ("ms", r"once in # seconds|rounds of # seconds|up to # seconds late|every # seconds|in # s`", TELLING, "REFUSALS_MS"),
     ("ms", r"waits? (at most|up to) # ms|at least every # ms", RUNNING, "WAIT_MS"),
     ("ms", r"period of #", "call_auth/src/call_token.rt", "TOKEN_MS"),
     ("ms", r"in the last #", "call_auth/src/call_token.rt", "TOKEN_MS", 2),
     ("ms", r"`retry_ms` and #|repeats? (?:that one )?within #", "leg_machine/src/resending.rt", r"retry_ms\.min\((\d+)\)"),
-    ("ms", r"another within #|any other within #|within # of that|vnak within #", "leg_machine/src/resending.rt", r"vnak_answered, now, (\d+)"),
+    (
+        "ms", r"another within #|any other within #|within # of that|vnak within #", "leg_machine/src/resending.rt",
+        r"vnak_answered, now, (\d+)",
+    ),
     ("ms", r"are tried for #", "call_files/src/writer.rt", "END_MS"),
     ("entries", r"fewer than # |memory for #|# entries more", ROOM, r"free_entries\(\) < (\d+)"),
     ("entries", r"at most # entries and [\d,]+ octets of data|answered \| #|has # entries and", ROOM, "CHALLENGED_ENTRIES"),
@@ -139,7 +142,7 @@ TABLE = (
     ("legs", r"more than # legs ended", "service_state/src/service_watch.rt", "NOTED"),
     ("addresses", r"latest", "service_log/src/strangers.rt", "ADDRESSES"),
     ("rows", r"more than # rows wait", "call_files/src/writer.rt", "WAITING"),
-    ("columns", r"", "call_ladder/src/text.rt", "COLUMNS"),
+    ("columns", r"", "replay_views/src/ladder/text.rt", "COLUMNS"),
     ("faults", r"printed", "plan_faults/src/findings.rt", "MOST_OTHERS", 1, 1),
     ("warnings", r"printed", "plan_faults/src/warnings.rt", "MOST_KEPT"),
     ("letters", r"prefix|begin|it has", "worker_setup/src/drawing.rt", r"twelve_letters.*-> \[u8; (\d+)\]"),
@@ -188,7 +191,8 @@ def of_plan():
         if key.name.endswith("_ms"):
             facts += [Fact("ms", rf"{word}.*default|default.*{word}", (int(key.default),))]
             facts += [Fact("ms", word, (bound,)) for bound in (key.low, key.high)]
-    usual = {it.name: it.default for it in plan_keys().values() if it.default.isdigit()} | {"record_limit": str(usual_limits()[0])}
+    usual = {it.name: it.default for it in plan_keys().values() if it.default.isdigit()}
+    usual["record_limit"] = str(usual_limits()[0])
     facts += [Fact("number", rf"^## the keys \| (?:… )?`{name}` \| .* \| #", (int(value),)) for name, value in usual.items()]
     window, port = plan_keys()["window"], plan_keys()["port"]
     facts += [
@@ -210,7 +214,7 @@ def of_texts():
     printed = tuple(int(it, 16) for it in re.search(r"octet >= (0x\w+) && \*octet <= (0x\w+)", source(SECRET)).groups())
     name, prefix = known(TEXTS, r"len\(\) <= (\d+) && are_name_octets"), known(TEXTS, r"len\(\) <= (\d+) && are_visible")
     secret, challenge = known(SECRET, r"ArrayVec<u8, (\d+)>"), known(CHALLENGE, r"ArrayVec<u8, (\d+)>")
-    called = known("exchange_core/src/outside.rt", r"text\.len\(\) > (\d+)")
+    called = known("exchange_core/src/calls.rt", r"text\.len\(\) > (\d+)")
     facts = [Fact("values", r"`secret` \||secret (\d+ to \d+ octets )?#|outside #|(each|octet) that isn't #|is shown", printed)]
     facts += [Fact("values", r"prefix(`| \d).*#|badnumber.*#|challenge.*#", visible)]
     facts += [Fact("range", r"`name` \| #|ic name #", (1, name)), Fact("range", r"`prefix` \| #|ic prefix #", (0, prefix))]
@@ -270,7 +274,7 @@ def of_estimates():
 def of_elements():
     """Returns the sizes of the information elements that have one."""
     sizes = {"Octet": 1, "Presentation": 1, "Pair": 2, "Methods": 2, "Formats": 4}
-    kinds = re.findall(r"\((\w+), \"[^\"]*\", Form::(\w+)\)", source("call_ladder/src/elements.rt"))
+    kinds = re.findall(r"\((\w+), \"[^\"]*\", Form::(\w+)\)", source("replay_views/src/ladder/elements.rt"))
     known_kinds = [(name.replace("_", " ").lower(), sizes[form]) for name, form in kinds if form in sizes]
     return [Fact("octets", rf"\b{name}\b[^|]* \| (?:text; )?#", (size,)) for name, size in known_kinds]
 

@@ -67,7 +67,10 @@ def statuses_of(line):
         "DELETE /calls/<number>": ("drop_call", "end_leg"),
         "GET /calls/<number>": ("call",),
     }.get(line, ())
-    found = {codes[it] for name in functions for it in re.findall(r"StatusCode::(\w+)", method_of(desk, name) or function_of(desk, name))}
+    found = {
+        codes[it] for name in functions
+        for it in re.findall(r"StatusCode::(\w+)", method_of(desk, name) or function_of(desk, name))
+    }
     asked = {status for request_line, status, said in answers() if request_line == line and isinstance(said, str)}
     return {it for it in found | asked if it >= 400}
 

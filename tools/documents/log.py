@@ -6,7 +6,7 @@ from .pages import coded, rows_of, section_of
 from .sources import source, sources
 
 PAGE, HEADING = "docs/METRICS.md", "## The log"
-SERVICE = ("service_sockets", "control", "faults_told", "journal", "seating")
+SERVICE = ("service_sockets", "control", "start_faults", "journal", "seating")
 LEVELS = ("error", "warn", "info", "debug")
 # The patterns of a text's end: a count of a round, the system's error, nothing.
 COUNTED, FAULT, ALONE = r": \d+ in \d+ s", r": .+", ""
@@ -32,25 +32,25 @@ def uses_of(function, start):
     if macro:
         return [(f"{(macro.group(1) or macro.group(2)).lower()}!", "")]
     begin = max(function.rfind(mark, 0, start) for mark in (";\n", "{\n", "=> {"))
-    inside = re.search(r"\b(tell\w*)\((?:[^;(]|\([^;()]*\))*$", function[begin:start].replace("format_args!(", ""))
+    inside = re.search(r"\b(log_\w+)\((?:[^;(]|\([^;()]*\))*$", function[begin:start].replace("format_args!(", ""))
     if inside:
         levels = re.findall(r"Level::(\w+)", function[begin + inside.start() : start])
         return [(inside.group(1), f"Level::{levels[-1]}" if levels else "")]
     given = re.findall(r"let (?:\([^)]*, )?(\w+)\)? = ", function[:start])
     handed = re.findall(rf"(\w+)\((?:self\.)?log,\s*(?:(\w+(?:::\w+)?),\s*)?&{given[-1]}\b", function[start:]) if given else []
-    return (handed or re.findall(r"(tell_count|tell)\((?:self\.)?log,\s*(Level::\w+)", function[start:]))[:1]
+    return (handed or re.findall(r"(log_count|log_line)\((?:self\.)?log,\s*(Level::\w+)", function[start:]))[:1]
 
 
 def of_use(function, name, level, text):
     """Returns a line by the call that logs it: its pattern, with what that adds, and its levels."""
     if name.endswith("!"):
         return pattern_of(text), {name[:-1]}
-    known = {"tell_lost": (COUNTED, {"warn"}), "tell_fault": (FAULT, {"warn"})}
+    known = {"log_lost": (COUNTED, {"warn"}), "log_file_fault": (FAULT, {"warn"})}
     if name in known:
         behind, levels = known[name]
         return pattern_of(text, behind), levels
     if level.startswith("Level::"):
-        return pattern_of(text, COUNTED if name == "tell_count" else ALONE), {level[7:].lower()}
+        return pattern_of(text, COUNTED if name == "log_count" else ALONE), {level[7:].lower()}
     return pattern_of(text, FAULT), {"error"}
 
 

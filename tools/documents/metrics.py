@@ -30,7 +30,7 @@ def labels():
 @functools.cache
 def values():
     """Returns the values of the labels that have names of the program."""
-    names = source("exchange_report/src/names.rt")
+    names = source("exchange_core/src/printed_names.rt")
     reasons = set(re.findall(r'"(\w+)"', source("service_state/src/reasons.rt")))
     failures = set(re.findall(r'=> "(\w+)"', source("service_state/src/authentication.rt")))
     frames = set(re.findall(r'\("(\w+)", \w+\)', source("service_api/src/lost_frames.rt")))

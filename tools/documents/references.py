@@ -19,7 +19,7 @@ def plan_faults():
 @functools.cache
 def refusals():
     """Returns every name that comes after `refused` or in `{"error": ..}`."""
-    names, wanted = source("exchange_report/src/names.rt"), set()
+    names, wanted = source("exchange_core/src/printed_names.rt"), set()
     for name in ("refusal_name", "rejection_name", "call_error_name", "order_error_name"):
         wanted |= names_in(names, name)
     wanted |= plan_faults() | {"Draining"}
@@ -41,7 +41,7 @@ def check_refusals(documents):
 
 def check_order_of_refusals(documents):
     """Returns the names of datagrams' refusals that aren't in the order in which the program looks for them."""
-    listed = re.findall(r'Refusal::\w+ => "(\w+)"', function_of(source("exchange_report/src/names.rt"), "refusal_name"))
+    listed = re.findall(r'Refusal::\w+ => "(\w+)"', function_of(source("exchange_core/src/printed_names.rt"), "refusal_name"))
     section = section_of(documents.text("docs/REFUSALS.md"), "## Datagrams")
     return differences(first_cells(section), listed)
 
@@ -153,7 +153,7 @@ def check_records(documents):
 
 def check_stages(documents):
     """Returns the stages that docs/GLOSSARY.md, docs/HTTP.md and docs/PROTOCOL.md lack or invent."""
-    stages = names_in(source("exchange_report/src/names.rt"), "stage_name")
+    stages = names_in(source("exchange_core/src/printed_names.rt"), "stage_name")
     faults = differences(first_cells(section_of(documents.text("docs/GLOSSARY.md"), "## Stage")), stages)
     row = next((it for it in rows_of(documents.text("docs/HTTP.md")) if it[0] == "`stage`"), ["", ""])
     return faults + differences([it for it in coded(row[1].split("(")[0])], stages - {"Free"})
@@ -162,7 +162,8 @@ def check_stages(documents):
 def check_parts(documents):
     """Returns the parts of the gate that docs/CHECKS.md lacks or invents."""
     gate = (TOP / ".ci/run").read_text(encoding="utf-8")
-    runs = re.findall(r"^(?:side_by_side )?(\.ci/.*)$", gate.partition("\nrt ci ")[2], re.M)
+    early, _, late = gate.partition("\nrt ci ")
+    runs = re.findall(r"^\.ci/(\w+)", early, re.M) + re.findall(r"(?<!\S)\.ci/(\w+)", late)
     parts = [it.removeprefix(".ci/") for it in first_cells(section_of(documents.text("docs/CHECKS.md"), "## Parts"))]
     tests = re.findall(r"discover -s ((?:tools/\w+|bench/measurements)/tests)", gate)
-    return differences(parts, re.findall(r"\.ci/(\w+)", " ".join(runs)) + ["wrong_bodies", *tests, "rt ci"])
+    return differences(parts, [*runs, *tests, "rt ci"])

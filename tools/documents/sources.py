@@ -105,7 +105,7 @@ def commands():
 def orders():
     """Returns the orders of `ctl`."""
     found = re.findall(
-        r'^ *"(\w+)" => Some\(ControlOrder|word\.as_str\(\) == "(\w+)"', source("control_client/src/order.rt"), re.M
+        r'^ *"(\w+)" => Some\(ControlOrder|word\.as_str\(\) == "(\w+)"', source("control_requests/src/client/order.rt"), re.M
     )
     return tuple(one or other for one, other in found)
 
@@ -137,7 +137,7 @@ def plan_keys():
 @functools.cache
 def columns():
     """Returns the columns of the tables that `ctl` prints, by order."""
-    tables = source("control_requests/src/tables.rt")
+    tables = source("control_requests/src/client/tables.rt")
     found = re.findall(r"const (\w+): Kind = Kind \{.*?columns: &\[(.*?)\]", tables, re.S)
     return {name.lower(): tuple(re.findall(r'"(\w+)"', listed)) for name, listed in found}
 
@@ -160,7 +160,7 @@ def names_in(text, function):
 def http_refusals():
     """Returns the refusals of requests, each as a status and a name."""
     codes, desk = status_codes(), sources("service_api", "control_server")
-    names = source("exchange_report/src/names.rt")
+    names = source("exchange_core/src/printed_names.rt")
     found = {(codes[status], name) for status, name in re.findall(r'StatusCode::(\w+)(?:\(\w+\))?,\s*"(\w+)"', desk)}
     found |= {(codes["Unprocessable"], it) for it in names_in(desk, "fault_name")}
     placing = names_in(names, "call_error_name") - {"BadNumber"}

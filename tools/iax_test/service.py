@@ -21,7 +21,9 @@ class Service:
         words = [*PROGRAM, "run", plan, "--control", path, *options]
         variables = os.environ | (environment or {})
         with open(log, "ab") as file:
-            self.process = subprocess.Popen(words, stdout=subprocess.PIPE, stderr=file, text=True, env=variables, preexec_fn=before)
+            self.process = subprocess.Popen(
+                words, stdout=subprocess.PIPE, stderr=file, text=True, env=variables, preexec_fn=before
+            )
         within("an answer at the control socket", patience, self.answers)
 
     def answers(self):
@@ -32,7 +34,9 @@ class Service:
 
     def fail_if_ended(self):
         if self.process.poll() is not None:
-            raise Failed(f"the service has ended with status {self.process.returncode}: {self.process.stdout.read()!r}: {self.logged()}")
+            raise Failed(
+                f"the service has ended with status {self.process.returncode}: {self.process.stdout.read()!r}: {self.logged()}"
+            )
 
     def ask(self, method, target, body=None, seconds=20):
         """Returns the JSON of its answer; None if it doesn't answer within this time."""

@@ -11,6 +11,4 @@ mod Safety
 mod TalkPlaces
 mod TalkSteps
 mod Talk
-pub mod WorldLegs
-mod PeerSteps
 mod Left

@@ -1,8 +1,8 @@
 -- Properties that hold wherever the next signal leads.
 use Rattle.call_control.specs.declared.place.Place.TheVariants as places
 use Rattle.call_control.specs.Beginnings.{beginning_at}
-use Rattle.call_control.proofs.Prelude.{◌≡◌, Some, None, false, refl, ℕ, List, [], ◌∷◌, arith, Option, LegName, is_first}
-use Rattle.call_control.proofs.Prelude.{go_on_from, in_hand, Command, Place, Signal, MediaSpan}
+use Rattle.call_control.proofs.Prelude.{◌≡◌, Some, None, refl, ℕ, List, [], ◌∷◌, arith, Option, LegName}
+use Rattle.call_control.proofs.Prelude.{advance_from, in_hand, Command, Place, Signal, MediaSpan}
 
 -- an equation that holds at each place to which the next signal can lead holds at the one to which it leads
 module _ {A : Type 0} (f : Place → A) (routed : (name : LegName) → f (places.Routing name) ≡ f places.End)
@@ -10,7 +10,7 @@ module _ {A : Type 0} (f : Place → A) (routed : (name : LegName) → f (places
     (looked : (name : LegName) → f (places.Looking name) ≡ f places.End)
     (looked_at : (peer number : ℕ) → f (places.LookingAt peer number) ≡ f places.End) where
   pub onward_at : (onward : List (LegName × Signal)) (touched : Option LegName) (looks : List (ℕ × ℕ))
-      → f (go_on_from onward touched looks).place ≡ f places.End
+      → f (advance_from onward touched looks).place ≡ f places.End
   onward_at [] (Some name) looks = looked name
   onward_at [] None [] = refl
   onward_at [] None (look ∷ looks) = looked_at look.0 look.1
@@ -18,7 +18,7 @@ module _ {A : Type 0} (f : Place → A) (routed : (name : LegName) → f (places
 
 module _ (onward : List (LegName × Signal)) (touched : Option LegName) (looks : List (ℕ × ℕ)) where
   abbrev further : Place
-  further = (go_on_from onward touched looks).place
+  further = (advance_from onward touched looks).place
 
   -- there is no lease when a signal is passed on
   pub onward_hand : in_hand further ≡ []
@@ -27,7 +27,3 @@ module _ (onward : List (LegName × Signal)) (touched : Option LegName) (looks :
   -- it is past the first step
   pub onward_past : beginning_at further ≡ None
   onward_past = onward_at beginning_at (λ n. refl) (λ n a. refl) (λ n. refl) (λ p n. refl) onward touched looks
-
-  -- .. and doesn't start over
-  pub onward_later : is_first further ≡ false
-  onward_later = onward_at is_first (λ n. refl) (λ n a. refl) (λ n. refl) (λ p n. refl) onward touched looks

@@ -17,8 +17,6 @@ pub use Rattle.call_book.specs.declared.errors.BridgeError.{BridgeError}
 pub use Rattle.call_book.specs.declared.errors.ReserveError.{ReserveError}
 pub use Rattle.call_book.specs.declared.leg_name.LegName.{LegName}
 pub use Rattle.call_signals.specs.Order.{kind_of, Kind}
-pub use Rattle.call_control.specs.DatagramsLeft.{OpensFew, brought_by, datagrams_left, is_first, need_puts, place_puts, rest_puts}
-pub use Rattle.call_control.specs.DatagramsLeft.{signals_put, step_puts, touched_puts}
 pub use Rattle.call_control.specs.Law.{AllAreLookedAfter, AllHavePartners, IsFresh, IsIdle, IsLookedAfter, IsOpened}
 pub use Rattle.call_control.specs.Law.{IsWithinSteps, NamesAreHeldOnce, NamesAreTheLegs, NoneIsBusy, NoneIsOutside, NoneIsStale}
 pub use Rattle.call_control.specs.Law.{NoneMeetsOffered, NumbersServeOne, is_heard, is_kept, is_spent, is_talk, leases_of}
@@ -34,7 +32,8 @@ pub use Rattle.call_control.specs.Scene.{without}
 pub use Rattle.call_control.specs.SeenReply.{heard, seen_reply}
 pub use Rattle.call_control.specs.Sees.{AreApart, IsWorldStep, Sees, look_of}
 pub use Rattle.call_control.specs.Work.{Rest, Work, after_accept, after_find, after_heard, after_reserve_in, after_status}
-pub use Rattle.call_control.specs.Work.{after_told, at, ended, go_on, go_on_from, in_hand, next_at, next_of, passed_on, place_for}
+pub use Rattle.call_control.specs.Work.{after_told, at, ended, advance, advance_from, in_hand, next_at, next_of, passed_on}
+pub use Rattle.call_control.specs.Work.{place_for}
 pub use Rattle.call_control.specs.Work.{told_at}
 pub use Rattle.call_control.specs.World.{ADatagram, Caller, Event, Start, Starts, Steps, World, after_answer, begins, happens}
 pub use Rattle.call_control.specs.World.{makes, run, scene_of, starts, steps, work_of}

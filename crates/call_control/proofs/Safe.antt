@@ -8,7 +8,7 @@ use Rattle.call_control.proofs.Prelude.{arith, inl, inr, ◌⊎◌, Option, ◌&
 use Rattle.call_control.proofs.Prelude.{nat_tests, AllByRecursion, Ok, is_same, Book, has_name, partner_of, LegName, times}
 use Rattle.call_control.proofs.Prelude.{names_of, is_kept, is_heard, words, names_in, names_at, handed_up, Leg, Scene, leg_at}
 use Rattle.call_control.proofs.Prelude.{leg_named, replaced, without, brought, all_lapsed, carried, if_named, let_lapse}
-use Rattle.call_control.proofs.Prelude.{lapsed_at, Work, Rest, go_on, told_at, at, go_on_from, in_hand, Place, Reply, Cause}
+use Rattle.call_control.proofs.Prelude.{lapsed_at, Work, Rest, advance, told_at, at, advance_from, in_hand, Place, Reply, Cause}
 use Rattle.call_control.proofs.Prelude.{Kind, Signal, Stage, SeenFrame, frame_effect, stage_after, Lapse, is_same_itself}
 use Rattle.call_control.proofs.Prelude.{same_name, bit, one_per_number}
 use Rattle.call_control.proofs.Held.{IsHeld, some_bit, found_at}
@@ -76,23 +76,23 @@ offered_of place = None
 -- ---- after the next signal
 
 onward_care : (onward : List (LegName × Signal)) (touched : Option LegName) (looks : List (ℕ × ℕ)) (x : LegName)
-    → offers x onward ≤ care (go_on_from onward touched looks) x
+    → offers x onward ≤ care (advance_from onward touched looks) x
 onward_care [] touched looks x = omega arith
 onward_care (up ∷ onward) touched looks x = grind (arith, onward_care onward touched looks x)
 
-pub go_on_care : (rest : Rest) (x : LegName) → offers x rest.onward ≤ care (go_on rest) x
+pub go_on_care : (rest : Rest) (x : LegName) → offers x rest.onward ≤ care (advance rest) x
 go_on_care rest x = onward_care rest.onward rest.touched rest.looks x
 
 onward_past : (onward : List (LegName × Signal)) (touched : Option LegName) (looks : List (ℕ × ℕ)) (x : LegName)
-    → past (go_on_from onward touched looks) x ≤ times x (words onward)
+    → past (advance_from onward touched looks) x ≤ times x (words onward)
 onward_past [] touched looks x = grind arith
 onward_past (up ∷ onward) touched looks x = grind (arith, onward_past onward touched looks x)
 
-pub go_on_past : (rest : Rest) (x : LegName) → past (go_on rest) x ≤ times x (words rest.onward)
+pub go_on_past : (rest : Rest) (x : LegName) → past (advance rest) x ≤ times x (words rest.onward)
 go_on_past rest x = onward_past rest.onward rest.touched rest.looks x
 
 onward_fresh : (onward : List (LegName × Signal)) (touched : Option LegName) (looks : List (ℕ × ℕ)) (x : LegName)
-    → fresh_at (go_on_from onward touched looks).place x ≡ 0
+    → fresh_at (advance_from onward touched looks).place x ≡ 0
 onward_fresh onward touched looks x = onward_at (λ place. fresh_at place x) (λ n. refl) (λ n a. refl) (λ n. refl) (λ p n. refl)
     onward touched looks
 

@@ -6,7 +6,7 @@ use Rattle.peer_lock.specs.declared.errors.OrderError.TheVariants as order_error
 use Rattle.call_control.proofs.Prelude.{◌≡◌, Some, None, true, false, refl, ℕ, ◌+◌, ◌≤◌, List, [], ap, arith, inl, inr, ◌⊎◌}
 use Rattle.call_control.proofs.Prelude.{Option, sym, ◌∙◌, ◌<◌, nat_tests, AllByRecursion, Ok, Err, Result, is_same, Book, LegName}
 use Rattle.call_control.proofs.Prelude.{names_of, is_kept, is_spent, Leg, Scene, Choice, RefusesOrder, leg_at, leg_named}
-use Rattle.call_control.proofs.Prelude.{replaced, Answer, answer, carried, at_leg, at_order, Work, Rest, go_on, told_at, at}
+use Rattle.call_control.proofs.Prelude.{replaced, Answer, answer, carried, at_leg, at_order, Work, Rest, advance, told_at, at}
 use Rattle.call_control.proofs.Prelude.{in_hand, Place, Reply, Cause, Kind, Stage, stage_after, OrderError, bit}
 use Rattle.call_control.proofs.Held.{scene, IsHeld, found_if}
 use Rattle.call_control.proofs.Safe.{care, past, fresh_at, go_on_care, brings_news, lets_go, told_care, all_map, all_replaced}
@@ -137,9 +137,9 @@ module _ (around : Surroundings) where
       (at_order (scene book legs []) offered (commands.Reject cause) choice)
   rejecting_safe offered cause rest choice b = order_ways (SafeAnswer (places.Rejecting offered cause) rest) (scene book legs [])
       offered (commands.Reject cause) choice (λ error. quiet b (replies.Order (Err error)) refl refl)
-      (λ leg stage found is. unchanged b _ (go_on rest)
+      (λ leg stage found is. unchanged b _ (advance rest)
       (moves (places.Rejecting offered cause) (replies.Order (Ok tt)) rest refl)
-      (obeyed b offered (go_on rest) (commands.Reject cause) leg stage found
+      (obeyed b offered (advance rest) (commands.Reject cause) leg stage found
       (λ x other. let none : bit (is_same offered x) ≡ 0 = ap bit other in omega (arith, go_on_care rest x))
       (λ c kept. absurd (closes leg stage is kept))))
     where
@@ -153,24 +153,26 @@ module _ (around : Surroundings) where
       (at_order (scene book legs []) name (commands.Doom cause) choice)
   dooming_safe name cause rest choice b seen_to = go choice seen_to
     where
-      goes_on : (new : List Leg) → Sees (go_on rest) new → Safe (places.Dooming name cause) rest (scene book new []) (go_on rest)
-      goes_on new = unchanged b new (go_on rest) (moves (places.Dooming name cause) (replies.Order (Ok tt)) rest refl)
+      goes_on : (new : List Leg) → Sees (advance rest) new → Safe (places.Dooming name cause) rest (scene book new []) (advance
+          rest)
+      goes_on new = unchanged b new (advance rest) (moves (places.Dooming name cause) (replies.Order (Ok tt)) rest refl)
 
-      apart_care : (x : LegName) → is_same name x ≡ false → care (at (places.Dooming name cause) rest) x ≤ care (go_on rest) x
+      apart_care : (x : LegName) → is_same name x ≡ false → care (at (places.Dooming name cause) rest) x ≤ care (advance rest) x
       apart_care x other = let none : bit (is_same name x) ≡ 0 = ap bit other in omega (arith, go_on_care rest x)
 
       doom : (o : Option Leg) (choice : Choice) → leg_named legs name ≡ o → SafeAnswer (places.Dooming name cause) rest
           (at_leg (scene book legs []) (commands.Doom cause) o choice)
-      doom None choice found = goes_on legs (none_apart b name (go_on rest) apart_care found)
-      doom (Some leg) (RefusesOrder error) found = goes_on _ (obeyed b name (go_on rest) (commands.Doom cause) leg leg.seen.stage
+      doom None choice found = goes_on legs (none_apart b name (advance rest) apart_care found)
+      doom (Some leg) (RefusesOrder error) found = goes_on _ (obeyed b name (advance rest) (commands.Doom cause) leg
+          leg.seen.stage
           found apart_care (λ c kept. absurd (doomed_not_kept cause leg leg.seen.stage kept)))
-      doom (Some leg) choice found = goes_on _ (obeyed b name (go_on rest) (commands.Doom cause) leg leg.seen.stage found
+      doom (Some leg) choice found = goes_on _ (obeyed b name (advance rest) (commands.Doom cause) leg leg.seen.stage found
           apart_care (λ c kept. absurd (doomed_not_kept cause leg leg.seen.stage kept)))
 
       go : (choice : Choice) → IsSeenTo others_care choice → SafeAnswer (places.Dooming name cause) rest
           (at_order (scene book legs []) name (commands.Doom cause) choice)
       go (RefusesOrder order_errors.StepsSpent) (inl paid) = absurd (cc)
       go (RefusesOrder order_errors.StepsSpent) (inr seen_to) = goes_on legs
-          (all_map (Covers book (seen (at (places.Dooming name cause) rest))) (Covers book (seen (go_on rest))) legs
+          (all_map (Covers book (seen (at (places.Dooming name cause) rest))) (Covers book (seen (advance rest))) legs
           (λ leg c kept. omega (arith, seen_to leg.name)) b.covered)
       go choice seen_to = doom (leg_named legs name) choice refl

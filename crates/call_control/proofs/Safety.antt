@@ -8,7 +8,7 @@ use Rattle.call_control.proofs.Prelude.{arith, inl, inr, ◌⊎◌, Option, sym,
 use Rattle.call_control.proofs.Prelude.{Ok, Err, is_same, has_name, partner_of, LegName, kind_of, times, names_of, is_kept}
 use Rattle.call_control.proofs.Prelude.{IsIdle, AllHavePartners, IsOpened, IsFresh, is_spent, IsWithinSteps, names_in}
 use Rattle.call_control.proofs.Prelude.{names_in_all, IsLookedAfter, AllAreLookedAfter, Scene, Choice, RefusesRejecting, LeadsTo}
-use Rattle.call_control.proofs.Prelude.{answer, answered, is_call, Work, Rest, next_at, next_of, go_on, at, in_hand, Caller}
+use Rattle.call_control.proofs.Prelude.{answer, answered, is_call, Work, Rest, next_at, next_of, advance, at, in_hand, Caller}
 use Rattle.call_control.proofs.Prelude.{World, Event, Start, work_of, scene_of, begins, run, after_answer, Need, Place}
 use Rattle.call_control.proofs.Prelude.{NormalClearing, same_name, bit, has_name_is}
 use Rattle.call_control.proofs.Held.{scene, some_bit, bit_most}
@@ -38,9 +38,9 @@ module _ (around : Surroundings) where
       → partner_of book target ≡ o
       → SafeAnswer around (places.Checking target) rest (answer (scene book legs []) (replies.Partner o))
   checked target rest b None is = quiet around b (replies.Partner None) refl refl
-  checked target rest b (Some partner) is = unchanged around b legs (go_on rest)
+  checked target rest b (Some partner) is = unchanged around b legs (advance rest)
       (moves (places.Checking target) (replies.Partner (Some partner)) rest refl)
-      (all_map (Covers book (seen around (at (places.Checking target) rest))) (Covers book (seen around (go_on rest))) legs
+      (all_map (Covers book (seen around (at (places.Checking target) rest))) (Covers book (seen around (advance rest))) legs
       (λ leg c kept. elim (cases_Bool (is_same target leg.name)) [
         | inl same ↦
             let one : bit (is_some (partner_of book leg.name)) ≡ 1 =

@@ -6,7 +6,7 @@ use Rattle.call_control.proofs.Prelude.{◌≡◌, Some, Bool, true, false, refl
 use Rattle.call_control.proofs.Prelude.{Option, ◌&&◌, sym, subst, ◌∙◌, ◌<◌, cond_both, cases_Bool, true≢false, AllByRecursion, Ok}
 use Rattle.call_control.proofs.Prelude.{Err, Result, is_same, Book, has_name, reserve_answer, partner_of, IsBook, after_reserve}
 use Rattle.call_control.proofs.Prelude.{ReserveError, LegName, kind_of, times, Leg, Scene, Choice, leg_at, brought, is_leased}
-use Rattle.call_control.proofs.Prelude.{carried, reserves, releases, is_stale, answered, let_lapse, Rest, told_at, go_on_from}
+use Rattle.call_control.proofs.Prelude.{carried, reserves, releases, is_stale, answered, let_lapse, Rest, told_at, advance_from}
 use Rattle.call_control.proofs.Prelude.{in_hand, after_accept, Need, Place, Reply, Format, Kind, Signal, Stage, SeenFrame}
 use Rattle.call_control.proofs.Prelude.{frame_effect, stage_after, Lapse, IsReserved, reserved, same_name, bit, has_name_is}
 use Rattle.call_control.proofs.Prelude.{partner_has, released_before, reserved_none, reserved_before}
@@ -127,7 +127,7 @@ is_plain place = true
 -- ---- the place after each answer
 
 pub onward_plain : (onward : List (LegName × Signal)) (touched : Option LegName) (looks : List (ℕ × ℕ))
-    → is_plain (go_on_from onward touched looks).place ≡ true
+    → is_plain (advance_from onward touched looks).place ≡ true
 onward_plain = onward_at is_plain (λ n. refl) (λ n a. refl) (λ n. refl) (λ p n. refl)
 
 -- all places but these three lead to plain ones
@@ -142,7 +142,7 @@ pub leads_to_plain : (place : Place) (reply : Reply) (rest : Rest) → leads_on 
 leads_to_plain place reply rest on = grind (arith, onward_plain)
 
 onward_opening : (onward : List (LegName × Signal)) (touched : Option LegName) (looks : List (ℕ × ℕ)) (x : LegName)
-    → opening_at (go_on_from onward touched looks).place x ≡ 0
+    → opening_at (advance_from onward touched looks).place x ≡ 0
 onward_opening onward touched looks x = onward_at (λ p. opening_at p x) (λ n. refl) (λ n a. refl) (λ n. refl) (λ p n. refl)
     onward touched looks
 

@@ -8,7 +8,8 @@ use Rattle.call_control.proofs.Prelude.{◌≡◌, Some, None, true, false, refl
 use Rattle.call_control.proofs.Prelude.{Option, sym, subst, ◌∙◌, ◌≢◌, cases_Bool, true≢false, AllByRecursion, Ok, Err, Result}
 use Rattle.call_control.proofs.Prelude.{is_same, Book, has_name, bridge_answer, partner_of, bridged, released, BridgeError}
 use Rattle.call_control.proofs.Prelude.{LegName, times, names_of, Leg, Scene, Choice, leg_named, replaced, Answer, carried}
-use Rattle.call_control.proofs.Prelude.{bridges, releases, at_release, answered, is_call, Rest, next_at, go_on, told_at, in_hand}
+use Rattle.call_control.proofs.Prelude.{bridges, releases, at_release, answered, is_call, Rest, next_at, advance, told_at}
+use Rattle.call_control.proofs.Prelude.{in_hand}
 use Rattle.call_control.proofs.Prelude.{after_reserve_in, after_find, Command, Need, Place, Reply, Format, Stage, stage_after}
 use Rattle.call_control.proofs.Prelude.{MediaSpan}
 use Rattle.call_control.proofs.Prelude.{IsBridged, bridged_by, is_same_itself, same_name, bit, has_name_is, one_per_number}
@@ -105,7 +106,7 @@ module _ (around : Surroundings) (others_opening : LegName → ℕ) (few_opening
         → (o : Option LegName)
         → partner_of book name ≡ o → Asks (SettledAt others_opening book legs (after_find (replies.Partner o) command rest).place)
         (after_find (replies.Partner o) command rest).place
-    found_asks name command rest b None is = asks_plain _ (go_on rest).place (onward_plain rest.onward rest.touched rest.looks)
+    found_asks name command rest b None is = asks_plain _ (advance rest).place (onward_plain rest.onward rest.touched rest.looks)
     found_asks name command rest b (Some partner) is = elim (b.partners name partner is) [
       | inl fresh ↦ absurd (omega (arith, b.safe.apart name (omega (arith, ap bit (is_same_itself name)))))
       | inr settled ↦ settled

@@ -6,7 +6,6 @@ pub mod Sees
 pub mod Scene
 pub mod World
 pub mod MediaLeft
-pub mod DatagramsLeft
 pub mod Leases
 pub mod Beginnings
 pub mod Law

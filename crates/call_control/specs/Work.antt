@@ -123,23 +123,23 @@ abbrev pub passed_on : Option Place → Rest → Work → Work
 passed_on None rest further = further
 passed_on (Some place) rest further = at place rest
 
-abbrev pub go_on_from : List (LegName × Signal) → Option LegName → List (ℕ × ℕ) → Work
-go_on_from [] touched looks = finish touched looks
-go_on_from (up ∷ onward) touched looks =
+abbrev pub advance_from : List (LegName × Signal) → Option LegName → List (ℕ × ℕ) → Work
+advance_from [] touched looks = finish touched looks
+advance_from (up ∷ onward) touched looks =
     passed_on (place_for up.0 up.1) (record {
       onward = onward;
       touched = touched;
       looks = looks;
-    }) (go_on_from onward touched looks)
+    }) (advance_from onward touched looks)
 
-abbrev pub go_on : Rest → Work
-go_on rest = go_on_from rest.onward rest.touched rest.looks
+abbrev pub advance : Rest → Work
+advance rest = advance_from rest.onward rest.touched rest.looks
 
 -- ---- the place after each answer; an answer of the wrong kind counts as a refusal
 
 -- the signals of a peer's step, and the leg that it touched
 abbrev pub after_heard : StepReply → Rest → Work
-after_heard heard rest = go_on (record rest { onward = heard.onwards.signals; touched = heard.touched })
+after_heard heard rest = advance (record rest { onward = heard.onwards.signals; touched = heard.touched })
 
 abbrev pub after_refused_datagram : PeerError → ℕ → Rest → Work
 after_refused_datagram peer_errors.NeedsNumber peer rest = at (places.ReserveIn peer) rest
@@ -167,7 +167,7 @@ after_route (replies.Route (routes.To peer format)) offered rest = at (places.Re
 after_route reply offered rest = at (places.Rejecting offered UnallocatedNumber) rest
 
 abbrev pub after_reject : Reply → LegName → Rest → Work
-after_reject (replies.Order (Ok done)) offered rest = go_on rest
+after_reject (replies.Order (Ok done)) offered rest = advance rest
 after_reject reply offered rest = at (places.Dooming offered NormalClearing) rest
 
 abbrev pub after_reserve_out : Reply → LegName → Format → Rest → Work
@@ -187,23 +187,23 @@ after_open_out (replies.OpenOut (Ok done)) offered target rest = at (places.Chec
 after_open_out reply offered target rest = at (places.Undoing offered target) rest
 
 abbrev pub after_check : Reply → LegName → Rest → Work
-after_check (replies.Partner (Some partner)) target rest = go_on rest
+after_check (replies.Partner (Some partner)) target rest = advance rest
 after_check reply target rest = at (places.Dooming target NormalClearing) rest
 
 abbrev pub after_find : Reply → Command MediaSpan → Rest → Work
 after_find (replies.Partner (Some partner)) command rest = at (places.Passing partner command) rest
-after_find reply command rest = go_on rest
+after_find reply command rest = advance rest
 
 -- refused for want of room: the partner is doomed, unless it was media
 abbrev pub after_no_room : Command MediaSpan → LegName → Rest → Work
-after_no_room (commands.Media span) partner rest = go_on rest
+after_no_room (commands.Media span) partner rest = advance rest
 after_no_room command partner rest = at (places.Dooming partner NormalClearing) rest
 
 abbrev pub after_pass : Reply → LegName → Command MediaSpan → Rest → Work
 after_pass (replies.Order (Err order_errors.WindowFull)) partner command rest = after_no_room command partner rest
 after_pass (replies.Order (Err order_errors.RecordFull)) partner command rest = after_no_room command partner rest
 after_pass (replies.Order (Err order_errors.Memory)) partner command rest = after_no_room command partner rest
-after_pass reply partner command rest = go_on rest
+after_pass reply partner command rest = advance rest
 
 -- a leg that owes is settled with its partner before it is taken out; the partner is hung up for the cause of its end
 abbrev pub after_status : LegName → Bool → Cause → Rest → Work
@@ -212,12 +212,12 @@ after_status name false cause rest = at (places.Retiring name cause) rest
 
 abbrev pub after_look : Reply → LegName → Rest → Work
 after_look (replies.Look (Some status)) name rest =
-    if is_same status.name name then after_status status.name status.owes status.cause rest else go_on rest
-after_look reply name rest = go_on rest
+    if is_same status.name name then after_status status.name status.owes status.cause rest else advance rest
+after_look reply name rest = advance rest
 
 abbrev pub after_look_at : Reply → Rest → Work
 after_look_at (replies.Look (Some status)) rest = after_status status.name status.owes status.cause rest
-after_look_at reply rest = go_on rest
+after_look_at reply rest = advance rest
 
 abbrev pub after_find_partner : Reply → LegName → Cause → Rest → Work
 after_find_partner (replies.Partner (Some partner)) name cause rest = at (places.HangingUp name partner cause) rest
@@ -232,20 +232,20 @@ after_partner_hangup reply name cause rest = at (places.Retiring name cause) res
 
 abbrev pub after_retire : Reply → LegName → Cause → Rest → Work
 after_retire (replies.Retire true) name cause rest = at (places.Freeing name cause) rest
-after_retire reply name cause rest = go_on rest
+after_retire reply name cause rest = advance rest
 
 -- the former partner is doomed
 abbrev pub after_free : Reply → Cause → Rest → Work
 after_free (replies.Release (Ok (Some partner))) cause rest = at (places.Dooming partner cause) rest
-after_free reply cause rest = go_on rest
+after_free reply cause rest = advance rest
 
 -- if no leg has ended and none owes, there is none to be finished
 abbrev pub after_tick : Reply → Rest → Work
-after_tick (replies.Tick (Ok false)) rest = go_on rest
+after_tick (replies.Tick (Ok false)) rest = advance rest
 after_tick reply rest = ended
 
 abbrev pub after_hang_up : Reply → Rest → Work
-after_hang_up (replies.Order (Ok done)) rest = go_on rest
+after_hang_up (replies.Order (Ok done)) rest = advance rest
 after_hang_up reply rest = ended
 
 abbrev pub after_reserve_call : Reply → Rest → Work
@@ -270,7 +270,7 @@ told_at (places.Accepting offered target format) reply rest = after_accept reply
 told_at (places.OpenOut offered target) reply rest = after_open_out reply offered target rest
 told_at (places.Checking target) reply rest = after_check reply target rest
 told_at (places.Undoing offered target) reply rest = at (places.Dooming offered NormalClearing) rest
-told_at (places.Dooming name cause) reply rest = go_on rest
+told_at (places.Dooming name cause) reply rest = advance rest
 told_at (places.Finding name command) reply rest = after_find reply command rest
 told_at (places.Passing partner command) reply rest = after_pass reply partner command rest
 told_at (places.Looking name) reply rest = after_look reply name rest

@@ -1,5 +1,5 @@
 //! The place to which each answer leads a call. An answer to another step counts as a refusal.
-ghost use Rattle.std.specs.Prelude.{◌≡◌, [], Option, None, Some, Ok, false};
+ghost use Rattle.std.specs.Prelude.{◌≡◌, Some, Ok, false};
 ghost use Rattle.call_control.specs.Work as work;
 ghost use Rattle.call_control.specs.WorkState.{onwards_after, brings_list};
 
@@ -22,21 +22,21 @@ impl Work {
     {
         match self.place() {
             Place::Datagram(peer) => match reply {
-                Reply::Datagram(Ok(heard)) => self.hear(heard),
+                Reply::Datagram(Ok(heard)) => self.take_reply(heard),
                 Reply::Datagram(Err(PeerError::NeedsNumber)) => self.go_to(Place::ReserveIn(peer)),
                 _ => self.end(),
             },
             Place::OpenIn(name) => match reply {
-                Reply::OpenIn(Ok(heard)) => self.hear(heard),
+                Reply::OpenIn(Ok(heard)) => self.take_reply(heard),
                 _ => self.go_to(Place::GiveBack(name)),
             },
-            place => self.told_without_list(place, &reply),
+            place => self.answered_without_list(place, &reply),
         }
     }
 
     // The match that owns the answer is the short one, because each of its arms has to drop it.
     #[inline(always)]
-    fn told_without_list(&mut self, place: Place, reply: &Reply)
+    fn answered_without_list(&mut self, place: Place, reply: &Reply)
         requires { brings_list place ≡ false }
         ensures work { self.new.work ≡ work.told_at place reply.now self.old.work.rest }
         ensures onwards { self.new.onwards ≡ self.old.onwards }
@@ -62,7 +62,7 @@ impl Work {
                 offered,
                 Cause::NormalClearing,
             )),
-            Place::Dooming(_, _) => self.go_on(),
+            Place::Dooming(_, _) => self.advance(),
             Place::Finding(_, command) => self.after_find(reply, command),
             Place::Passing(partner, command) => self.after_pass(reply, partner, command),
             Place::Looking(name) => self.after_look(reply, name),
@@ -112,7 +112,7 @@ impl Work {
         ensures { self.new ≡ record self.old { work = work.after_reject reply.now offered self.old.work.rest } }
     {
         match reply {
-            Reply::Order(Ok(())) => self.go_on(),
+            Reply::Order(Ok(())) => self.advance(),
             _ => self.go_to(Place::Dooming(offered, Cause::NormalClearing)),
         }
     }
@@ -157,7 +157,7 @@ impl Work {
         ensures { self.new ≡ record self.old { work = work.after_check reply.now target self.old.work.rest } }
     {
         match reply {
-            Reply::Partner(Some(_)) => self.go_on(),
+            Reply::Partner(Some(_)) => self.advance(),
             _ => self.go_to(Place::Dooming(target, Cause::NormalClearing)),
         }
     }
@@ -167,7 +167,7 @@ impl Work {
     {
         match reply {
             Reply::Partner(Some(partner)) => self.go_to(Place::Passing(*partner, command)),
-            _ => self.go_on(),
+            _ => self.advance(),
         }
     }
 
@@ -178,7 +178,7 @@ impl Work {
             Reply::Order(
                 Err(OrderError::WindowFull | OrderError::RecordFull | OrderError::Memory),
             ) => self.after_no_room(&command, partner),
-            _ => self.go_on(),
+            _ => self.advance(),
         }
     }
 
@@ -187,7 +187,7 @@ impl Work {
         ensures { self.new ≡ record self.old { work = work.after_no_room command.now partner self.old.work.rest } }
     {
         match command {
-            Command::Media(_) => self.go_on(),
+            Command::Media(_) => self.advance(),
             _ => self.go_to(Place::Dooming(partner, Cause::NormalClearing)),
         }
     }
@@ -200,10 +200,10 @@ impl Work {
                 if status.name == name {
                     self.after_status(status)
                 } else {
-                    self.go_on()
+                    self.advance()
                 }
             }
-            _ => self.go_on(),
+            _ => self.advance(),
         }
     }
 
@@ -212,7 +212,7 @@ impl Work {
     {
         match reply {
             Reply::Look(Some(status)) => self.after_status(status),
-            _ => self.go_on(),
+            _ => self.advance(),
         }
     }
 
@@ -253,7 +253,7 @@ impl Work {
     {
         match reply {
             Reply::Retire(true) => self.go_to(Place::Freeing(name, cause)),
-            _ => self.go_on(),
+            _ => self.advance(),
         }
     }
 
@@ -262,7 +262,7 @@ impl Work {
     {
         match reply {
             Reply::Release(Ok(Some(partner))) => self.go_to(Place::Dooming(*partner, cause)),
-            _ => self.go_on(),
+            _ => self.advance(),
         }
     }
 
@@ -270,7 +270,7 @@ impl Work {
         ensures { self.new ≡ record self.old { work = work.after_tick reply.now self.old.work.rest } }
     {
         match reply {
-            Reply::Tick(Ok(false)) => self.go_on(),
+            Reply::Tick(Ok(false)) => self.advance(),
             _ => self.end(),
         }
     }
@@ -279,7 +279,7 @@ impl Work {
         ensures { self.new ≡ record self.old { work = work.after_hang_up reply.now self.old.work.rest } }
     {
         match reply {
-            Reply::Order(Ok(())) => self.go_on(),
+            Reply::Order(Ok(())) => self.advance(),
             _ => self.end(),
         }
     }

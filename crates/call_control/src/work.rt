@@ -1,5 +1,5 @@
 //! The steps of one call.
-ghost use Rattle.std.specs.Prelude.{◌≡◌, ◌+◌, ◌≤◌, ◌^◌, [], Option, None, Some, option_copied, is_some, Ok};
+ghost use Rattle.std.specs.Prelude.{◌≡◌, ◌+◌, ◌≤◌, ◌^◌, Option, None, Some, option_copied, is_some};
 ghost use Rattle.call_control.specs.Beginnings.{beginning_at};
 ghost use Rattle.call_control.specs.Work as work;
 
@@ -206,7 +206,7 @@ impl Work {
 
     // Takes the list of a step of a peer that was made.
     #[inline(always)]
-    pub(crate) fn hear(&mut self, heard: StepReply)
+    pub(crate) fn take_reply(&mut self, heard: StepReply)
         ensures work { self.new.work ≡ work.after_heard heard self.old.work.rest }
         ensures onwards { self.new.onwards ≡ Some heard.onwards }
     {
@@ -218,12 +218,12 @@ impl Work {
         self.signals_left = onwards.len();
         self.onwards = Some(onwards);
         self.touched = touched;
-        self.go_on();
+        self.advance();
     }
 
     // Continues with the next signal, then with the touched leg, then with the next number of a tick.
-    pub(crate) fn go_on(&mut self)
-        ensures { self.new ≡ record self.old { work = work.go_on self.old.work.rest } }
+    pub(crate) fn advance(&mut self)
+        ensures { self.new ≡ record self.old { work = work.advance self.old.work.rest } }
     {
         while let Some((name, signal)) = self.take_signal() {
             if let Some(place) = Place::for_signal(name, signal) {

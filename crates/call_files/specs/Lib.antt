@@ -1,3 +1,4 @@
+pub mod Fault
 pub mod Lines
 pub mod Logs
 pub mod Outlets

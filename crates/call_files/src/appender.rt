@@ -3,8 +3,9 @@ ghost use Rattle.std.specs.Prelude.{◌≡◌, None, Some, IfOk, OnOk, OnErr, is
 ghost use Rattle.call_files.specs.Lines.{followed_by, rest_of, row_octets, with_lines, whole, begun};
 ghost use Rattle.call_files.specs.Logs.{IsBegun, IsUnopened, IsFaced};
 
+use crate::fault::Fault;
 use crate::line::Line;
-use crate::row_file::{Beginning, Fault, RowFile, Whereabouts};
+use crate::row_file::{Beginning, RowFile, Whereabouts};
 use std::marker::Model;
 
 // The time after which an idle file is checked, in milliseconds.

@@ -2,16 +2,16 @@
 ghost use Rattle.std.specs.Prelude.{◌≤◌, length, IfOk};
 
 use crate::disk::Disk;
+use crate::system_limits::{
+    ABOVE_LIMIT, file_size_limit, is_same_file, is_writable, octets_below, refuse_exchanged,
+    refuse_link,
+};
 use crate::{Beginning, Fault, RowFile, Whereabouts};
 use std::fs::{File, Metadata};
 use std::io;
 use std::io::{ErrorKind, Write};
 use std::os::fd::AsRawFd;
 use std::os::unix::fs::FileExt;
-use system_limits::{
-    ABOVE_LIMIT, file_size_limit, is_same_file, is_writable, octets_below, refuse_exchanged,
-    refuse_link,
-};
 
 // The number of times that a write is repeated after a signal interrupted it.
 const TRIES: u32 = 16;
@@ -33,12 +33,6 @@ pub(crate) struct DiskFile<'a, D: Disk> {
     is_regular: bool,
     // The limit on the size of a file, in octets.
     limit: u64,
-}
-
-fn fault_of(error: &io::Error) -> Fault {
-    Fault {
-        code: error.raw_os_error(),
-    }
 }
 
 // Returns the state of a file's content. A pipe, or any file that isn't regular, counts as empty.
@@ -134,7 +128,7 @@ impl<'a, D: Disk> RowFile for DiskFile<'a, D> {
     fn open(&mut self) -> Result<Beginning, Fault> {
         match self.open_named() {
             Ok(beginning) => Ok(beginning),
-            Err(error) => Err(fault_of(&error)),
+            Err(error) => Err(Fault::of(&error)),
         }
     }
 
@@ -168,7 +162,7 @@ impl<'a, D: Disk> RowFile for DiskFile<'a, D> {
         self.file = Some(file);
         match written {
             Ok(count) => Ok(count),
-            Err(error) => Err(fault_of(&error)),
+            Err(error) => Err(Fault::of(&error)),
         }
     }
 
@@ -176,7 +170,7 @@ impl<'a, D: Disk> RowFile for DiskFile<'a, D> {
     fn sync(&mut self) -> Result<(), Fault> {
         match &self.file {
             Some(file) => match file.sync_data() {
-                Err(error) if error.kind() != ErrorKind::InvalidInput => Err(fault_of(&error)),
+                Err(error) if error.kind() != ErrorKind::InvalidInput => Err(Fault::of(&error)),
                 _ => Ok(()),
             },
             None => Ok(()),

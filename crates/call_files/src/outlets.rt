@@ -80,6 +80,9 @@ fn outlet(
     Ok((Mutex::new(Outlet::new(producer, kept)), consumer))
 }
 
+// The number of bits that a fault takes.
+const FAULT_BITS: u32 = 33;
+
 // Encodes a file's trouble as a number: 0 for none.
 fn number_of(trouble: Option<Trouble>) -> u64 {
     let (kind, fault) = match trouble {
@@ -88,18 +91,13 @@ fn number_of(trouble: Option<Trouble>) -> u64 {
         Some(Trouble::Write(fault)) => (2, fault),
         Some(Trouble::Sync(fault)) => (3, fault),
     };
-    kind << 32 | u64::from(fault.code.unwrap_or(0).cast_unsigned())
+    kind << FAULT_BITS | fault.number()
 }
 
 // Decodes a file's trouble.
 fn trouble_of(number: u64) -> Option<Trouble> {
-    let fault = Fault {
-        code: match u32::try_from(number & 0xffff_ffff) {
-            Ok(0) | Err(_) => None,
-            Ok(code) => Some(code.cast_signed()),
-        },
-    };
-    match number >> 32 {
+    let fault = Fault::of_number(number & ((1 << FAULT_BITS) - 1))?;
+    match number >> FAULT_BITS {
         1 => Some(Trouble::Open(fault)),
         2 => Some(Trouble::Write(fault)),
         3 => Some(Trouble::Sync(fault)),

@@ -3,11 +3,7 @@ ghost use Rattle.std.specs.Prelude.{◌≡◌, ◌≢◌, ◌≤◌, [], length,
 ghost use Rattle.call_files.specs.Lines.{followed_by, beginning_of};
 ghost use Rattle.call_files.specs.declared.row_file.Whereabouts.TheVariants.{Emptied};
 
-/// The reason why the system refused a call: its error number, if it gave one.
-#[derive(Clone, Copy, Debug, PartialEq, Eq)]
-pub struct Fault {
-    pub code: Option<i32>,
-}
+use crate::fault::Fault;
 
 /// The state of the content of a file that was just opened.
 #[derive(Clone, Copy)]

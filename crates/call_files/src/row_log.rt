@@ -4,7 +4,8 @@ ghost use Rattle.call_records.specs.Backlog.{with_row};
 ghost use Rattle.call_files.specs.Logs.{IsBegun, IsUnopened, IsWritten, IsMoved, row_count};
 
 use crate::appender::{Appender, Trouble};
-use crate::row_file::{Fault, RowFile};
+use crate::fault::Fault;
+use crate::row_file::RowFile;
 use call_records::Backlog;
 use std::alloc::{AllocError, Global};
 use std::marker::Model;

@@ -1,7 +1,8 @@
 -- The columns of a row, in order.
 use Rattle.std.specs.Prelude.{ℕ, List, [], ◌∷◌, ◌++◌, Some, codes, option_map}
+use Rattle.peer_plan.specs.FormatNames.{format_name}
 use Rattle.call_records.specs.Courses.{talk_ms}
-use Rattle.call_records.specs.Rows.{side_text, format_text, failure_text, or_nothing, number_text, telephone_text, moment_columns}
+use Rattle.call_records.specs.Rows.{side_text, failure_text, or_nothing, number_text, telephone_text, moment_columns}
 use Rattle.call_records.specs.Rows.{ending_text, end_moment, end_cause}
 use Rattle.call_records.specs.Reasons.{bill_ms, reason_text}
 use Rattle.call_records.specs.declared.call_row.CallRow.{CallRow}
@@ -17,7 +18,7 @@ name_columns row peer =
 abbrev pub party_columns : CallRow → List (List ℕ)
 party_columns row =
     or_nothing (option_map side_text row.leg.opened_by) ∷ telephone_text row.leg.calling ∷ telephone_text row.leg.called
-    ∷ format_text row.format ∷ []
+    ∷ format_name row.format ∷ []
 
 -- the moments at which the leg was opened and taken out
 abbrev pub time_columns : CallRow → List ℕ → List ℕ → List (List ℕ)

@@ -5,8 +5,6 @@ use Rattle.std.specs.Str.Lossy.{utf8_lossy}
 use Rattle.plain_text.specs.Printable.{printable_octet}
 use Rattle.call_signals.specs.declared.failure.Failure.{Failure}
 use Rattle.call_signals.specs.declared.failure.Failure.TheVariants.{RetriesSpent, RecordFull, ChallengeTimeout, Inval}
-use Rattle.call_signals.specs.declared.format.Format.{Format}
-use Rattle.call_signals.specs.declared.format.Format.TheVariants.{Gsm, Ulaw, Alaw}
 use Rattle.call_records.specs.declared.side.Side.{Side}
 use Rattle.call_records.specs.declared.side.Side.TheVariants.{Peer, Exchange}
 use Rattle.call_records.specs.declared.leg_moment.LegMoment.{LegMoment}
@@ -19,11 +17,6 @@ use Rattle.call_records.specs.declared.call_end.CallEnd.{CallEnd}
 abbrev pub side_text : Side → List ℕ
 side_text Peer = codes "peer"
 side_text Exchange = codes "exchange"
-
-abbrev pub format_text : Format → List ℕ
-format_text Gsm = codes "gsm"
-format_text Ulaw = codes "ulaw"
-format_text Alaw = codes "alaw"
 
 abbrev pub how_text : Ending → List ℕ
 how_text HungUpHere = codes "hung_up_here"

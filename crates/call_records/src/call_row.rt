@@ -7,13 +7,13 @@ ghost use Rattle.call_records.specs.Reasons as reasons;
 
 use crate::call_record::CallRecord;
 use crate::columns::{
-    ending_name, failure_name, format_name, push_moment, push_number, push_record, push_telephone,
-    side_name,
+    ending_name, failure_name, push_moment, push_number, push_record, push_telephone, side_name,
 };
 use crate::reason::reason_name;
 use call_book::LegName;
 use call_signals::{Failure, Format, Moments};
 use csv::StringRecord;
+use peer_plan::format_name;
 use std::alloc::{AllocError, Global};
 
 /// The row of a leg that has ended. It takes no memory beside itself, and is at most 1,024 octets large.

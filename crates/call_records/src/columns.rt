@@ -7,7 +7,7 @@ ghost use Rattle.call_records.specs.Rows as rows;
 use crate::call_end::{CallEnd, Ending};
 use crate::leg_moment::LegMoment;
 use crate::side::Side;
-use call_signals::{ElementText, Failure, Format};
+use call_signals::{ElementText, Failure};
 use csv::{StringRecord, WriterBuilder};
 use plain_text::printable;
 use std::alloc::{AllocError, Global};
@@ -73,17 +73,6 @@ pub(crate) fn side_name(side: Side) -> &'static str
     match side {
         Side::Peer => "peer",
         Side::Exchange => "exchange",
-    }
-}
-
-// Returns the name of a format.
-pub(crate) fn format_name(format: Format) -> &'static str
-    ensures { result.now ≡ rows.format_text format }
-{
-    match format {
-        Format::Gsm => "gsm",
-        Format::Ulaw => "ulaw",
-        Format::Alaw => "alaw",
     }
 }
 

@@ -1,7 +1,9 @@
-//! The requests of clients of the control socket, in HTTP/1.1 (RFC 9112), and the octets of each response. Nothing here
-//! waits, reads or writes.
+//! The requests of clients of the control socket, in HTTP/1.1 (RFC 9112), and the octets of each response.
+//!
+//! `client` sends requests to a running service. Nothing else here waits, reads or writes.
 #![tactic(auto)]
 
+pub mod client;
 mod digits;
 mod json_text;
 pub mod laws;
@@ -9,7 +11,6 @@ mod operation;
 mod placing;
 mod request;
 mod response;
-mod tables;
 mod urgency;
 mod views;
 
@@ -17,6 +18,5 @@ pub use operation::{Methods, Operation, OperationError, operation_of};
 pub use placing::{PlaceFault, PlaceOrder, place_of};
 pub use request::{BODY_LIMIT, FIELD_LIMIT, HEAD_LIMIT, Reading, Request, read_request};
 pub use response::{Response, StatusCode};
-pub use tables::{TableFault, accounts_table, calls_table, peers_table};
 pub use urgency::{Urgency, urgency_of};
 pub use views::{AccountsRow, CallEntry, PeerRow, Rows, accounts_body, call_body};

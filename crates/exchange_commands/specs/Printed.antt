@@ -4,7 +4,7 @@ use Rattle.call_signals.specs.declared.stage.Stage.{Stage}
 use Rattle.exchange_commands.specs.declared.replaying.ReplayError.{ReplayError}
 use Rattle.exchange_commands.specs.declared.replaying.ReplayError.TheVariants as errors
 use Rattle.exchange_core.specs.declared.answers.Retired.{Retired}
-use Rattle.exchange_report.specs.Names.{stage_text}
+use Rattle.exchange_core.specs.PrintedNames.{stage_text}
 use Rattle.hex.specs.Hex.{encode_lower}
 use Rattle.peer_plan.specs.Errors.{error_text}
 use Rattle.peer_plan.specs.Plan.{PlanView, counts_of, total_of}

@@ -2,12 +2,11 @@
 ghost use Rattle.std.specs.Prelude.{◌<◌, length};
 
 use crate::decimal;
-use crate::desk::Desk;
+use crate::replay_context::ReplayContext;
 use crate::viewer::Stop;
 use crate::words::peer_of;
 use call_auth::Challenge;
 use exchange_core::{CallError, Exchange, NoGate, Pass};
-use exchange_report::count_legs;
 use peer_lock::LedgerSet;
 use peer_plan::{NumberRange, PeerId};
 use std::alloc::Global;
@@ -135,30 +134,30 @@ fn take_and_free<J: LedgerSet, R: Wait>(
 /// Returns `Script` if no peer has that name, one of its numbers has a leg, or the text doesn't list each of its numbers
 /// once.
 pub(crate) fn order_free<J: LedgerSet, R: Wait, V>(
-    desk: &mut Desk<'_, R, J, V>,
+    context: &mut ReplayContext<'_, R, J, V>,
     peer: &[u8],
     text: &[u8],
     now: u64,
     challenge: &Challenge,
 ) -> Result<(), Stop> {
-    let exchange = desk.exchange;
+    let exchange = context.exchange;
     let peer = match peer_of(exchange.plan(), peer) {
         Ok(peer) => peer,
         Err(stop) => return Err(stop),
     };
-    let numbers = match listed(desk.alloc, text) {
+    let numbers = match listed(context.alloc, text) {
         Ok(numbers) => numbers,
         Err(stop) => return Err(stop),
     };
-    let (rt, range) = (desk.rt, exchange.plan().range(peer));
-    if !is_order_of(&numbers, range) || count_legs(rt, exchange, desk.pass, peer) > 0 {
+    let (rt, range) = (context.rt, exchange.plan().range(peer));
+    if !is_order_of(&numbers, range) || exchange.leg_count(rt, context.pass, peer) > 0 {
         return Err(Stop::Script);
     }
-    if let Err(stop) = take_and_free(rt, exchange, desk.pass, peer, &numbers, now, challenge) {
+    if let Err(stop) = take_and_free(rt, exchange, context.pass, peer, &numbers, now, challenge) {
         return Err(stop);
     }
     for _ in 0..u64::MAX {
-        if exchange.take_out(rt, desk.pass, peer).is_none() {
+        if exchange.take_out(rt, context.pass, peer).is_none() {
             break;
         }
     }

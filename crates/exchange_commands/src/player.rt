@@ -1,14 +1,13 @@
 //! Plays the lines of a script on an exchange, and reports the result of each to a viewer.
 use crate::ScriptLine;
-use crate::desk::Desk;
 use crate::free_order::{count_numbers, order_free};
 use crate::outboxes::empty_outbox;
+use crate::replay_context::ReplayContext;
 use crate::stages::Stages;
 use crate::viewer::{PeerOfPlan, ReceivedDatagram, Stop, Viewer};
 use crate::words::{Sender, key_of, octets_of, peer_of, places_of, sender_of};
 use call_auth::Challenge;
-use exchange_core::{Answer, Refusal, Retired};
-use exchange_report::{call_error_name, order_error_name, refusal_name};
+use exchange_core::{Answer, Refusal, Retired, call_error_name, order_error_name, refusal_name};
 use peer_lock::{LedgerSet, Status};
 use peer_plan::{PeerId, Plan};
 use std::alloc::Global;
@@ -102,12 +101,12 @@ impl Player {
     /// - `serial` has a line other than these and `free` before it, or is less than the serials that these used.
     pub(crate) fn line<J: LedgerSet, R: Wait, V: Viewer>(
         &mut self,
-        desk: &mut Desk<'_, R, J, V>,
+        context: &mut ReplayContext<'_, R, J, V>,
         line: &ScriptLine<'_>,
     ) -> Result<(), Stop> {
-        let worked = match self.begin(line, desk.viewer) {
-            Ok(sends) => match self.work(desk, line) {
-                Ok(()) if sends => self.send(desk, &ScriptLine::Send),
+        let worked = match self.begin(line, context.viewer) {
+            Ok(sends) => match self.work(context, line) {
+                Ok(()) if sends => self.send(context, &ScriptLine::Send),
                 worked => worked,
             },
             Err(stop) => Err(stop),
@@ -130,25 +129,27 @@ impl Player {
     // Does what the line asks for.
     fn work<J: LedgerSet, R: Wait, V: Viewer>(
         &mut self,
-        desk: &mut Desk<'_, R, J, V>,
+        context: &mut ReplayContext<'_, R, J, V>,
         line: &ScriptLine<'_>,
     ) -> Result<(), Stop> {
         match line {
-            ScriptLine::Rx(_, digits) | ScriptLine::Stranger(_, digits) => self.hear(
-                desk, line, digits,
+            ScriptLine::Rx(_, digits) | ScriptLine::Stranger(_, digits) => self.receive(
+                context, line, digits,
             ),
-            ScriptLine::Call(peer, number) => self.call(desk, peer, number),
-            ScriptLine::HangUp(number) => self.hang_up(desk, *number),
-            ScriptLine::Tick | ScriptLine::TickOf(_) => self.tick(desk, line),
-            ScriptLine::Send | ScriptLine::SendTo(_) => self.send(desk, line),
+            ScriptLine::Call(peer, number) => self.call(context, peer, number),
+            ScriptLine::HangUp(number) => self.hang_up(context, *number),
+            ScriptLine::Tick | ScriptLine::TickOf(_) => self.tick(context, line),
+            ScriptLine::Send | ScriptLine::SendTo(_) => self.send(context, line),
             ScriptLine::Drain(drains) => {
-                desk.exchange.set_all_draining(desk.rt, desk.pass, *drains);
+                context
+                    .exchange
+                    .set_all_draining(context.rt, context.pass, *drains);
                 Ok(())
             }
             ScriptLine::Free(peer, numbers) => {
                 self.stages.doubt();
                 self.used = self.used.saturating_add(count_numbers(numbers));
-                order_free(desk, peer, numbers, self.now, &self.challenge)
+                order_free(context, peer, numbers, self.now, &self.challenge)
             }
             _ => self.set(line),
         }
@@ -201,15 +202,15 @@ impl Player {
     }
 
     // Receives the datagram of a line.
-    fn hear<J: LedgerSet, R: Wait, V: Viewer>(
+    fn receive<J: LedgerSet, R: Wait, V: Viewer>(
         &mut self,
-        desk: &mut Desk<'_, R, J, V>,
+        context: &mut ReplayContext<'_, R, J, V>,
         line: &ScriptLine<'_>,
         digits: &[u8],
     ) -> Result<(), Stop> {
-        match sender_of(desk.exchange.plan(), line) {
-            Ok(sender) => match octets_of(desk.alloc, digits) {
-                Ok(octets) => self.hear_octets(desk, sender, &octets),
+        match sender_of(context.exchange.plan(), line) {
+            Ok(sender) => match octets_of(context.alloc, digits) {
+                Ok(octets) => self.receive_octets(context, sender, &octets),
                 Err(stop) => Err(stop),
             },
             Err(stop) => Err(stop),
@@ -217,9 +218,9 @@ impl Player {
     }
 
     // Receives these octets.
-    fn hear_octets<J: LedgerSet, R: Wait, V: Viewer>(
+    fn receive_octets<J: LedgerSet, R: Wait, V: Viewer>(
         &mut self,
-        desk: &mut Desk<'_, R, J, V>,
+        context: &mut ReplayContext<'_, R, J, V>,
         sender: Sender<'_>,
         octets: &[u8],
     ) -> Result<(), Stop> {
@@ -228,15 +229,15 @@ impl Player {
             self.stages.doubt();
         }
         let (now, challenge) = (self.now, &self.challenge);
-        let answer = desk
+        let answer = context
             .exchange
-            .datagram(desk.rt, desk.pass, from, octets, now, challenge);
+            .datagram(context.rt, context.pass, from, octets, now, challenge);
         let refused = self.keep(answer);
-        self.tell_heard(peer, octets, refused, desk.viewer)
+        self.report_received(peer, octets, refused, context.viewer)
     }
 
     // Reports a datagram from a peer to the viewer, or the refusal of a stranger's.
-    fn tell_heard<V: Viewer>(
+    fn report_received<V: Viewer>(
         &self,
         peer: Option<PeerOfPlan<'_>>,
         octets: &[u8],
@@ -253,59 +254,62 @@ impl Player {
                     refusal,
                 })
             }
-            None => self.tell_refusal(refused, viewer),
+            None => self.report_refusal(refused, viewer),
         }
     }
 
     // Places a call.
     fn call<J: LedgerSet, R: Wait, V: Viewer>(
         &mut self,
-        desk: &mut Desk<'_, R, J, V>,
+        context: &mut ReplayContext<'_, R, J, V>,
         peer: &[u8],
         number: &[u8],
     ) -> Result<(), Stop> {
-        let peer = peer_of(desk.exchange.plan(), peer)?;
+        let peer = peer_of(context.exchange.plan(), peer)?;
         self.stages.doubt();
-        match desk
+        match context
             .exchange
-            .call(desk.rt, desk.pass, peer, number, self.now)
+            .call(context.rt, context.pass, peer, number, self.now)
         {
             Ok(_) => Ok(()),
-            Err(error) => desk.viewer.refused(self.now, call_error_name(error)),
+            Err(error) => context.viewer.refused(self.now, call_error_name(error)),
         }
     }
 
     // Hangs up the leg of a number.
     fn hang_up<J: LedgerSet, R: Wait, V: Viewer>(
         &mut self,
-        desk: &mut Desk<'_, R, J, V>,
+        context: &mut ReplayContext<'_, R, J, V>,
         number: u64,
     ) -> Result<(), Stop> {
         let number = u16::try_from(number).unwrap_or(0);
-        match self.stages.status(desk, number) {
-            Some(Status { name, .. }) if name.peer < desk.exchange.plan().peer_count() => {
+        match self.stages.status(context, number) {
+            Some(Status { name, .. }) if name.peer < context.exchange.plan().peer_count() => {
                 self.stages.doubt_live();
-                match desk.exchange.hang_up(desk.rt, desk.pass, name, self.now) {
-                    Ok(answer) => self.answered(answer, desk.viewer),
-                    Err(error) => desk.viewer.refused(self.now, order_error_name(error)),
+                match context
+                    .exchange
+                    .hang_up(context.rt, context.pass, name, self.now)
+                {
+                    Ok(answer) => self.answered(answer, context.viewer),
+                    Err(error) => context.viewer.refused(self.now, order_error_name(error)),
                 }
             }
-            _ => desk.viewer.refused(self.now, "NoLeg"),
+            _ => context.viewer.refused(self.now, "NoLeg"),
         }
     }
 
     // Ticks the peers that the line names, or all, in the order of the plan.
     fn tick<J: LedgerSet, R: Wait, V: Viewer>(
         &mut self,
-        desk: &mut Desk<'_, R, J, V>,
+        context: &mut ReplayContext<'_, R, J, V>,
         line: &ScriptLine<'_>,
     ) -> Result<(), Stop> {
-        let exchange = desk.exchange;
+        let exchange = context.exchange;
         let (first, end) = places_of(exchange.plan(), line)?;
         self.stages.doubt_live();
         for place in first..end {
-            let answer = exchange.tick(desk.rt, desk.pass, PeerId::new(place), self.now);
-            if let Err(stop) = self.answered(answer, desk.viewer) {
+            let answer = exchange.tick(context.rt, context.pass, PeerId::new(place), self.now);
+            if let Err(stop) = self.answered(answer, context.viewer) {
                 return Err(stop);
             }
         }
@@ -315,11 +319,11 @@ impl Player {
     // Keeps the legs that were taken out until datagrams are sent, and reports a refusal.
     fn answered<V: Viewer>(&mut self, answer: Answer, viewer: &mut V) -> Result<(), Stop> {
         let refused = self.keep(answer);
-        self.tell_refusal(refused, viewer)
+        self.report_refusal(refused, viewer)
     }
 
     // Reports a refusal, if there is one.
-    fn tell_refusal<V: Viewer>(
+    fn report_refusal<V: Viewer>(
         &self,
         refused: Result<Option<Refusal>, Stop>,
         viewer: &mut V,
@@ -349,23 +353,23 @@ impl Player {
     // names, or to all, in the order of the plan. Then reports the legs that were taken out, and the stages that changed.
     fn send<J: LedgerSet, R: Wait, V: Viewer>(
         &mut self,
-        desk: &mut Desk<'_, R, J, V>,
+        context: &mut ReplayContext<'_, R, J, V>,
         line: &ScriptLine<'_>,
     ) -> Result<(), Stop> {
-        let (first, end) = places_of(desk.exchange.plan(), line)?;
+        let (first, end) = places_of(context.exchange.plan(), line)?;
         for place in first..end {
-            if let Err(stop) = empty_outbox(desk, PeerId::new(place), self.now) {
+            if let Err(stop) = empty_outbox(context, PeerId::new(place), self.now) {
                 return Err(stop);
             }
         }
-        match self.tell_retired(desk.viewer) {
-            Ok(()) => self.stages.tell(desk, self.now),
+        match self.report_retired(context.viewer) {
+            Ok(()) => self.stages.report_changes(context, self.now),
             Err(stop) => Err(stop),
         }
     }
 
     // Reports the legs that were taken out, by ascending number.
-    fn tell_retired<V: Viewer>(&mut self, viewer: &mut V) -> Result<(), Stop> {
+    fn report_retired<V: Viewer>(&mut self, viewer: &mut V) -> Result<(), Stop> {
         if self.retired.is_empty() {
             return Ok(());
         }

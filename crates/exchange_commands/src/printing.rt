@@ -5,11 +5,11 @@ ghost use Rattle.exchange_commands.specs.Printed.{datagram_line, refused_line, r
 ghost use Rattle.hex.specs.Hex.{encode_lower};
 
 use crate::viewer::{PeerOfPlan, ReceivedDatagram, Stop, Viewer};
-use exchange_core::Retired;
-use exchange_report::{MediaAccounts, refusal_name, stage_name, write_accounts};
+use exchange_core::{Retired, refusal_name, stage_name};
 use leg_machine::Stage;
 use std::io;
 use std::io::Write;
+use worker_setup::{MediaAccounts, write_accounts};
 
 /// Prints a replay, one line for each event.
 #[derive(Drop)]
@@ -18,7 +18,7 @@ pub(crate) struct Printer<'a, W> {
 }
 
 // Converts the result of a write to that of a viewer.
-fn told(written: io::Result<()>) -> Result<(), Stop> {
+fn viewer_result(written: io::Result<()>) -> Result<(), Stop> {
     match written {
         Ok(()) => Ok(()),
         Err(_) => Err(Stop::Writer),
@@ -73,28 +73,28 @@ fn write_stage<W: Write>(number: u16, stage: Option<Stage>, writer: &mut W) -> i
 impl<W: Write> Viewer for Printer<'_, W> {
     fn received(&mut self, datagram: ReceivedDatagram<'_>) -> Result<(), Stop> {
         match datagram.refusal {
-            Some(refusal) => told(write_refused(refusal_name(refusal), self.writer)),
+            Some(refusal) => viewer_result(write_refused(refusal_name(refusal), self.writer)),
             None => Ok(()),
         }
     }
 
     fn refused(&mut self, _moment: u64, name: &'static str) -> Result<(), Stop> {
-        told(write_refused(name, self.writer))
+        viewer_result(write_refused(name, self.writer))
     }
 
     fn sent(&mut self, _moment: u64, peer: PeerOfPlan<'_>, octets: &[u8]) -> Result<(), Stop> {
-        told(write_datagram(peer.name, octets, self.writer))
+        viewer_result(write_datagram(peer.name, octets, self.writer))
     }
 
     fn retired(&mut self, _moment: u64, leg: &Retired) -> Result<(), Stop> {
-        told(write_retired(leg, self.writer))
+        viewer_result(write_retired(leg, self.writer))
     }
 
     fn staged(&mut self, _moment: u64, number: u16, stage: Option<Stage>) -> Result<(), Stop> {
-        told(write_stage(number, stage, self.writer))
+        viewer_result(write_stage(number, stage, self.writer))
     }
 
     fn settled(&mut self, accounts: &MediaAccounts) -> Result<(), Stop> {
-        told(write_accounts(accounts, self.writer))
+        viewer_result(write_accounts(accounts, self.writer))
     }
 }

@@ -7,16 +7,15 @@ ghost use Rattle.peer_plan.specs.declared.error.PlanError.{PlanError};
 ghost use Rattle.peer_plan.specs.declared.error.PlanError.TheVariants as faults;
 ghost use Rattle.exchange_commands.specs.declared.replaying.ReplayError.TheVariants as errors;
 
-use crate::desk::Desk;
 use crate::free_order::count_numbers;
 use crate::player::Player;
 use crate::printing::Printer;
+use crate::replay_context::ReplayContext;
 use crate::viewer::{Stop, Viewer};
 use crate::words::key_of;
 use crate::{ScriptLine, ends_script, line_of};
 use call_auth::Challenge;
 use exchange_core::{Exchange, NoGate, Pass};
-use exchange_report::closed_accounts;
 use media_ledger::Blank;
 use peer_lock::{LedgerSet, Service};
 use peer_plan::{Drawn, Plan, PlanError};
@@ -26,6 +25,7 @@ use std::io::{BufWriter, Write};
 use std::marker::Brand;
 use std::sync::Wait;
 use std::sync::ledger::Ledger;
+use worker_setup::closed_accounts;
 
 /// The content of the two files of a replay: the plan of an exchange, and a script.
 #[derive(Clone, Copy)]
@@ -66,7 +66,7 @@ fn stopped_at(line: usize, stop: Stop) -> ReplayError {
 
 /// Writes why a replay ended, and returns the status: 0 at the end of the script, or else 1. It writes `refused <fault>`,
 /// `refused Script <line>` or `refused Memory`, and nothing if the output can't be written.
-pub fn tell_outcome<W: Write>(outcome: Result<(), ReplayError>, writer: &mut W) -> u8
+pub fn write_outcome<W: Write>(outcome: Result<(), ReplayError>, writer: &mut W) -> u8
     ensures { result ≡ (if is_ok outcome then 0 else 1) }
 {
     match outcome {
@@ -119,14 +119,14 @@ fn work_line<J: LedgerSet, R: Wait, V: Viewer>(
         },
         (Some(line), Some((exchange, passes))) => match passes.first_mut() {
             Some(pass) => {
-                let mut desk = Desk {
+                let mut context = ReplayContext {
                     rt,
                     alloc,
                     exchange: &*exchange,
                     pass,
                     viewer,
                 };
-                player.line(&mut desk, &line)
+                player.line(&mut context, &line)
             }
             None => Err(Stop::Script),
         },
@@ -196,7 +196,7 @@ fn play<O: Ledger + Send + Sync, S: Ledger + Send + Sync, R: Wait, V: Viewer>(
 /// Replays a script on an exchange of its plan, up to its end or to the first line that is refused. Reports the results of
 /// each line to the viewer.
 ///
-/// `tell_outcome` writes the outcome as `replay` does.
+/// `write_outcome` writes the outcome as `replay` does.
 ///
 /// Returns `Plan` with the plan's first fault if the plan is refused, and `Memory` if a request for memory was refused.
 /// Returns `Script` with the number of a refused line, from 1 on, or 0 if the viewer returns `Script` when the exchange is
@@ -304,7 +304,7 @@ pub fn replay<R: Wait, W: Write>(
     ensures valid { result ≡ 0 → IsOk (plan_of files.entry.plan.now) }
 {
     let outcome = replay_with(rt, alloc, files, &mut Printer { writer });
-    tell_outcome(outcome, writer)
+    write_outcome(outcome, writer)
 }
 
 // Flushes the output and returns the status of a replay. Only the status reports that the output can't be written.
@@ -332,5 +332,5 @@ pub fn replay_buffered<R: Wait, W: Write>(
         let status = replay(rt, alloc, files, &mut buffered);
         return flushed(status, &mut buffered);
     }
-    tell_outcome(Err(ReplayError::Memory), writer)
+    write_outcome(Err(ReplayError::Memory), writer)
 }

@@ -1,5 +1,5 @@
 //! Runs the workers of a plan between real peers, for a number of turns.
-ghost use Rattle.std.specs.Prelude.{◌≡◌, ◌+◌, ◌≤◌, IfOk, IsOk, OnOk, if◌then◌else◌, is_ok, length, vec_len};
+ghost use Rattle.std.specs.Prelude.{◌≡◌, ◌+◌, ◌≤◌, IfOk, IsOk, OnOk, length, vec_len};
 ghost use Rattle.peer_plan.specs.Reading.{plan_of};
 ghost use Rattle.worker_setup.specs.Reports.{HasServed};
 
@@ -18,12 +18,43 @@ use std::thread::Threads;
 use std::time::{Clock, Instant};
 use udp_workers::{PlanBrand, TurnReport, run_all};
 use worker_setup::{
-    PlainSockets, SeatContext, ServiceError, reports_of, seats_of, service_error_name, tell_served,
-    with_drawn_key,
+    PlainSockets, SeatContext, ServiceError, reports_of, seats_of, status_of, with_drawn_key,
+    write_served,
 };
 
-// Makes the turns of all workers. Their passes are added back to `passes`.
-fn turns_of<
+// The values from which the exchange is opened, and the moment of the opening.
+#[derive(Drop)]
+struct Opening {
+    plan: Plan,
+    octets: Blank,
+    steps: Blank,
+    opened: Instant,
+}
+
+// Returns the opening of an exchange of this plan, with a key for its call tokens if a peer needs them.
+fn opening_of<R: Clock + RandomSource>(rt: &R, plan: Plan) -> Result<Opening, ServiceError>
+    ensures workers { IfOk result (λ opening. opening.plan.workers ≡ plan.workers) }
+    ensures octets { IfOk result (λ opening. opening.octets.parts ≡ length opening.plan.peers + opening.plan.passes) }
+    ensures steps { IfOk result (λ opening. opening.steps.parts ≡ length opening.plan.peers + opening.plan.passes) }
+{
+    let Ok(opened) = Instant::now(rt) else {
+        return Err(ServiceError::Clock);
+    };
+    let plan = match with_drawn_key(rt, plan) {
+        Ok(plan) => plan,
+        Err(error) => return Err(error),
+    };
+    let parts = u64::from(plan.peer_count()) + u64::from(plan.passes());
+    Ok(Opening {
+        plan,
+        octets: Blank::new(parts),
+        steps: Blank::new(parts),
+        opened,
+    })
+}
+
+// Binds the workers' sockets, and makes the turns of all workers. Their passes are added back to `passes`.
+fn serve_with_sockets<
     't,
     J: LedgerSet,
     P: PlanBrand + Send + Sync,
@@ -60,72 +91,35 @@ fn turns_of<
     }
 }
 
-// Makes the turns on an exchange of the ledgers and the plan that the caller names. Then writes the workers' reports and
-// the accounts.
-fn work<
+// Opens an exchange, with the ledgers and the plan that the caller names, and makes the turns on it. Then writes the workers'
+// reports, and its accounts.
+fn serve_with_exchange<
     O: Ledger + Send + Sync,
     S: Ledger + Send + Sync,
     P: PlanBrand + Send + Sync,
     R: Clock + Net + RandomSource + Threads + Wait + Sync,
     W: Write,
->(
-    rt: &R,
-    alloc: Global,
-    plan: Plan,
-    turns: u32,
-    opened: Instant,
-    writer: &mut W,
-    octets: Blank,
-    steps: Blank,
-) -> Result<(), ServiceError>
-    requires plan { plan ≡ P.plan }
-    requires octets { (octets.name ≡ O.name) × (octets.parts ≡ O.parts) × (octets.parts ≡ length plan.peers + plan.passes) }
-    requires steps { (steps.name ≡ S.name) × (steps.parts ≡ S.parts) × (steps.parts ≡ length plan.peers + plan.passes) }
-    ensures { OnOk result (HasServed (length plan.workers) (W.contents writer.old) (W.contents writer.new)) }
+>(rt: &R, alloc: Global, opening: Opening, turns: u32, writer: &mut W) -> Result<(), ServiceError>
+    requires plan { opening.plan ≡ P.plan }
+    requires octets { (opening.octets.name ≡ O.name) × (opening.octets.parts ≡ O.parts) ×
+        (opening.octets.parts ≡ length opening.plan.peers + opening.plan.passes) }
+    requires steps { (opening.steps.name ≡ S.name) × (opening.steps.parts ≡ S.parts) ×
+        (opening.steps.parts ≡ length opening.plan.peers + opening.plan.passes) }
+    ensures { OnOk result (HasServed (length opening.plan.workers) (W.contents writer.old) (W.contents writer.new)) }
 {
+    let Opening {
+        plan,
+        octets,
+        steps,
+        opened,
+    } = opening;
     let _passes = plan.passes();
     let exchange = Exchange::<NoGate, Service<O, S>>::open(alloc, plan, NoGate, octets, steps);
     let Ok((exchange, mut passes)) = exchange else {
         return Err(ServiceError::Memory);
     };
-    let reports = turns_of::<_, P, R>(rt, alloc, &exchange, &mut passes, turns, opened);
-    tell_served(reports, exchange, passes, writer)
-}
-
-// Makes the turns of a valid plan.
-fn serve_plan<R: Clock + Net + RandomSource + Threads + Wait + Sync, W: Write>(
-    rt: &R,
-    alloc: Global,
-    plan: Plan,
-    turns: u32,
-    writer: &mut W,
-) -> Result<(), ServiceError>
-    ensures { OnOk result (HasServed (length plan.workers) (W.contents writer.old) (W.contents writer.new)) }
-{
-    let Ok(opened) = Instant::now(rt) else {
-        return Err(ServiceError::Clock);
-    };
-    let plan = match with_drawn_key(rt, plan) {
-        Ok(plan) => plan,
-        Err(error) => return Err(error),
-    };
-    let parts = u64::from(plan.peer_count()) + u64::from(plan.passes());
-    let (octets, steps) = (Blank::new(parts), Blank::new(parts));
-    work::<Brand, Brand, Brand, R, W>(rt, alloc, plan, turns, opened, writer, octets, steps)
-}
-
-// Returns the status, and prints a refusal.
-fn status_of<W: Write>(served: Result<(), ServiceError>, writer: &mut W) -> u8
-    ensures status { result ≡ (if is_ok served then 0 else 1) }
-    ensures same { IsOk served → writer.new ≡ writer.old }
-{
-    let Err(error) = served else {
-        return 0;
-    };
-    if let Some(name) = service_error_name(error) {
-        let _ = writeln!(writer, "refused {name}");
-    }
-    1
+    let reports = serve_with_sockets::<_, P, R>(rt, alloc, &exchange, &mut passes, turns, opened);
+    write_served(reports, exchange, passes, writer)
 }
 
 /// Makes `turns` turns of each worker of a plan, each on a separate thread with a separate UDP socket. Then writes `worker
@@ -148,7 +142,15 @@ pub fn serve<R: Clock + Net + RandomSource + Threads + Wait + Sync, W: Write>(
         (λ plan. HasServed (length plan.workers) (W.contents writer.old) (W.contents writer.new)) }
 {
     match Plan::read(alloc, plan) {
-        Ok(plan) => status_of(serve_plan(rt, alloc, plan, turns, writer), writer),
+        Ok(plan) => {
+            let served = match opening_of(rt, plan) {
+                Ok(opening) => serve_with_exchange::<Brand, Brand, Brand, R, W>(
+                    rt, alloc, opening, turns, writer,
+                ),
+                Err(error) => Err(error),
+            };
+            status_of(served, writer)
+        }
         Err(fault) => {
             let _ = writeln!(writer, "refused {fault}");
             1

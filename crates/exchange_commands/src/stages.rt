@@ -1,5 +1,5 @@
 //! The stages of the plan's numbers, as last reported to a viewer.
-use crate::desk::Desk;
+use crate::replay_context::ReplayContext;
 use crate::viewer::{Stop, Viewer};
 use leg_machine::Stage;
 use peer_lock::{LedgerSet, Status};
@@ -24,7 +24,7 @@ enum Changed {
 #[derive(Drop)]
 pub(crate) struct Stages {
     // By number, from 1 on.
-    told: Vec<Option<Stage>>,
+    reported: Vec<Option<Stage>>,
     // The peer of each number.
     peers: Vec<PeerId>,
     // The places of the numbers whose reported stage is that of a leg, ascending.
@@ -51,7 +51,7 @@ impl Stages {
     pub(crate) fn new(alloc: Global, plan: &Plan) -> Result<Stages, AllocError> {
         let peers = peers_of(alloc, plan)?;
         Ok(Stages {
-            told: vec![in alloc; None; peers.len()]?,
+            reported: vec![in alloc; None; peers.len()]?,
             live: Vec::with_capacity(alloc, peers.len())?,
             peers,
             changed: Changed::None,
@@ -60,7 +60,7 @@ impl Stages {
 
     /// Returns the count of numbers.
     pub(crate) fn count(&self) -> usize {
-        self.told.len()
+        self.reported.len()
     }
 
     /// Notes that a leg may have been opened at any number.
@@ -78,13 +78,13 @@ impl Stages {
     /// Returns the status of the leg of a number.
     pub(crate) fn status<J: LedgerSet, R: Wait, V>(
         &self,
-        desk: &mut Desk<'_, R, J, V>,
+        context: &mut ReplayContext<'_, R, J, V>,
         number: u16,
     ) -> Option<Status> {
-        let exchange = desk.exchange;
+        let exchange = context.exchange;
         match self.peers.get(usize::from(number).wrapping_sub(1)) {
             Some(peer) if peer.get() < exchange.plan().peer_count() => {
-                exchange.status(desk.rt, desk.pass, *peer, number)
+                exchange.status(context.rt, context.pass, *peer, number)
             }
             _ => None,
         }
@@ -98,7 +98,7 @@ impl Stages {
             return Ok(changed == Changed::Live);
         }
         self.live.clear();
-        for place in 0..self.told.len() {
+        for place in 0..self.reported.len() {
             if self.live.push(place).is_err() {
                 return Err(Stop::Memory);
             }
@@ -107,9 +107,9 @@ impl Stages {
     }
 
     /// Reports each changed stage to the viewer, by ascending number.
-    pub(crate) fn tell<J: LedgerSet, R: Wait, V: Viewer>(
+    pub(crate) fn report_changes<J: LedgerSet, R: Wait, V: Viewer>(
         &mut self,
-        desk: &mut Desk<'_, R, J, V>,
+        context: &mut ReplayContext<'_, R, J, V>,
         now: u64,
     ) -> Result<(), Stop> {
         match self.are_doubted() {
@@ -120,7 +120,7 @@ impl Stages {
         let mut count: usize = 0;
         for turn in 0..self.live.len() {
             let place = self.live.get(turn).copied().unwrap_or(0);
-            match self.tell_one(desk, place, now) {
+            match self.report_change(context, place, now) {
                 Ok(true) => {
                     self.keep(count, place);
                     count = count.saturating_add(1);
@@ -141,23 +141,23 @@ impl Stages {
     }
 
     // Reports the stage of the number at a place if it has changed. Returns whether it has a leg.
-    fn tell_one<J: LedgerSet, R: Wait, V: Viewer>(
+    fn report_change<J: LedgerSet, R: Wait, V: Viewer>(
         &mut self,
-        desk: &mut Desk<'_, R, J, V>,
+        context: &mut ReplayContext<'_, R, J, V>,
         place: usize,
         now: u64,
     ) -> Result<bool, Stop> {
         let number = u16::try_from(place.saturating_add(1)).unwrap_or(0);
-        let stage = match self.status(desk, number) {
+        let stage = match self.status(context, number) {
             Some(status) => Some(status.stage),
             None => None,
         };
-        let told = if self.changes(place, stage) {
-            desk.viewer.staged(now, number, stage)
+        let reported = if self.changes(place, stage) {
+            context.viewer.staged(now, number, stage)
         } else {
             Ok(())
         };
-        match told {
+        match reported {
             Ok(()) => Ok(stage.is_some()),
             Err(stop) => Err(stop),
         }
@@ -165,9 +165,9 @@ impl Stages {
 
     // Stores a reported stage. Returns whether it has changed.
     fn changes(&mut self, place: usize, stage: Option<Stage>) -> bool {
-        match self.told.get_mut(place) {
-            Some(told) if *told != stage => {
-                *told = stage;
+        match self.reported.get_mut(place) {
+            Some(reported) if *reported != stage => {
+                *reported = stage;
                 true
             }
             _ => false,

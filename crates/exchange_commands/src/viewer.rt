@@ -4,11 +4,11 @@ ghost use Rattle.exchange_commands.specs.declared.viewer.Stop.TheVariants as sto
 
 use crate::ScriptLine;
 use exchange_core::{Refusal, Retired};
-use exchange_report::MediaAccounts;
 use leg_machine::Stage;
 use peer_plan::{Endpoint, PeerId, Plan};
 use std::alloc::AllocError;
 use std::io;
+use worker_setup::MediaAccounts;
 
 /// The reason why a replay ends before its script does.
 #[derive(Clone, Copy)]

@@ -3,8 +3,7 @@ ghost use Rattle.std.specs.Prelude.{◌<◌, ◌≤◌, length, IfOk};
 
 use crate::ScriptLine;
 use crate::viewer::{PeerOfPlan, Stop};
-use exchange_report::peer_named;
-use peer_plan::{Endpoint, PeerId, Plan};
+use peer_plan::{Endpoint, PeerId, Plan, peer_named};
 use std::alloc::Global;
 use std::net::SocketAddrV4;
 use std::str;

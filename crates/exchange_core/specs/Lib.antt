@@ -3,10 +3,12 @@ pub mod Denial
 pub mod Draining
 pub mod FirstSteps
 pub mod Leaving
+pub mod Losses
 pub mod Names
 pub mod Newcomers
 pub mod Numbers
 pub mod Refusals
+pub mod PrintedNames
 pub mod Rejections
 pub mod Routes
 pub mod Since

@@ -3,6 +3,7 @@
 #![tactic(auto)]
 
 mod answers;
+mod calls;
 mod denial;
 mod driver;
 mod exchange;
@@ -10,24 +11,29 @@ mod gate;
 pub mod laws;
 mod leg_openings;
 mod locked;
-mod looking;
-mod making;
+mod losses;
 mod opening;
-mod outside;
-mod parting;
 mod peer_sections;
+mod printed_names;
+mod queries;
 mod rejections;
 mod resources;
 mod retired_legs;
 mod routing;
 mod settlement;
+mod shares;
 mod skipping;
+mod steps;
 mod watch;
 
 pub use answers::{Answer, CallError, Refusal, Retired};
 pub use exchange::Exchange;
 pub use gate::{Gate, NoGate};
+pub use losses::{PeerLosses, losses_of};
 pub use peer_lock::Rejection;
+pub use printed_names::{
+    call_error_name, order_error_name, refusal_name, rejection_name, stage_name,
+};
 pub use settlement::{SettleError, Settlement};
 pub use step_log::Pass;
 pub use watch::{Event, ServiceStage, Watch};

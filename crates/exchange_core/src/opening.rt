@@ -221,6 +221,7 @@ fn book_of(alloc: Global, plan: &Plan, first_serial: u64) -> Result<CallBook, Al
     ensures book { IfOk result (λ book. book ≡ first_book plan.now first_serial) }
     ensures start { OnOk result (IsStart plan.now first_serial) }
 {
+    // For the proof: a plan has at most 32 peers.
     let _peers = plan.peer_count();
     CallBook::new(alloc, plan.counts(), first_serial)
 }
@@ -286,6 +287,7 @@ fn state_of<J: LedgerSet>(
     requires steps { steps ≡ J.first_steps }
     ensures { IfOk result (IsFirstPeer plan.now peer) }
 {
+    // For the proof: each peer has 1 to 512 numbers.
     let _counts = plan.counts();
     let range = plan.range(peer);
     match PeerState::new(

@@ -6,7 +6,7 @@ ghost use Rattle.exchange_core.specs.Sums.{accounts_of, left_with, steps_under, 
 
 use crate::exchange::Exchange;
 use crate::gate::Gate;
-use crate::parting::{Parts, part_passes, part_peers};
+use crate::shares::{Parts, part_passes, part_peers};
 use call_book::CallBook;
 use media_ledger::{Share, Supply, gather};
 use peer_lock::{ClosedPeer, LedgerSet};

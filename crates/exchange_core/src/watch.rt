@@ -71,7 +71,7 @@ pub trait Watch {
     ghost answered: { Self → ServiceStage → Type 0 } = { λ _ _. ⊤ };
 
     /// A worker reported this event.
-    ghost told: { Self → Event → Type 0 } = { λ _ _. ⊤ };
+    ghost observed: { Self → Event → Type 0 } = { λ _ _. ⊤ };
 
     /// It was given this leg, which was taken out.
     ghost given: { Self → Departure → Type 0 } = { λ _ _. ⊤ };
@@ -83,9 +83,9 @@ pub trait Watch {
     fn stage(&self) -> ServiceStage
         ensures { answered self.now result };
 
-    /// Reports an event.
-    fn tell(&self, event: Event)
-        ensures { told self.now event };
+    /// Takes note of an event.
+    fn observe(&self, event: Event)
+        ensures { observed self.now event };
 
     /// Gives the leg that a worker took out. The event was reported right before.
     fn retire(&self, worker: WorkerId, leg: &Retired)

@@ -14,9 +14,10 @@ use crate::plans::{
 };
 use crate::usage::Usage;
 use crate::views::{View, view_files};
+use call_files::system_limits::fill_standard;
 use clap::ArgMatches;
 use clap::error::ErrorKind;
-use control_client::{ControlOrder, give_order};
+use control_requests::client::{ControlOrder, give_order};
 use exchange_commands::{ReplayFiles, replay_buffered, serve, turn_count};
 use exchange_service::{
     CallLines, ServiceContext, ServiceDisk, ServiceSystem, Settings, ShownNumbers, TraceOptions,
@@ -30,7 +31,6 @@ use std::process::ExitCode;
 use std::rt::Files;
 use std::sync::Wait;
 use std::{env, fs, io};
-use system_limits::fill_standard;
 
 /// The system of the program: that of a service, with files, standard output and memory.
 trait Program: ServiceSystem + Files<File = File> + Print + Alloc {}
@@ -194,7 +194,7 @@ fn log_level(options: &ArgMatches<'_>) -> LevelFilter {
 // Returns how calls are logged: without numbers unless the options ask for them.
 fn call_lines(options: &ArgMatches<'_>) -> CallLines {
     CallLines {
-        are_told: options.get_flag("log-calls"),
+        are_logged: options.get_flag("log-calls"),
         numbers: match options.get_str("log-numbers") {
             Some("full") => ShownNumbers::Full,
             Some("last4") => ShownNumbers::LastFour,

@@ -1,8 +1,7 @@
 //! The views of a replay, as commands request them.
 use crate::both_of;
 use clap::ArgMatches;
-use exchange_commands::ReplayFiles;
-use replay_views::{LadderForm, write_capture, write_ladder, write_records};
+use exchange_commands::{LadderForm, ReplayFiles, write_capture, write_ladder, write_records};
 use std::alloc::Global;
 use std::io;
 use std::rt::Files;

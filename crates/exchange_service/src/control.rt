@@ -5,7 +5,7 @@ use crate::running::Settings;
 use crate::service_context::ServiceContext;
 use control_requests::{Request, Urgency};
 use control_server::{Clients, Door, NotBound};
-use exchange_report::{count_legs, losses_of};
+use exchange_core::losses_of;
 use log::{Log, warn};
 use peer_lock::LedgerSet;
 use peer_plan::PeerId;
@@ -14,7 +14,6 @@ use service_log::LogState;
 use service_state::SocketTable;
 use std::alloc::{AllocError, Global};
 use std::fs::{File, Files};
-use std::io;
 use std::net::Net;
 use std::random::RandomSource;
 use std::sync::Wait;
@@ -45,18 +44,23 @@ pub(crate) struct Control<'s> {
 }
 
 impl<'s> Control<'s> {
-    /// Returns a control without listeners and clients.
-    pub(crate) fn new<R: Files<File = File> + Net, D>(
+    /// Opens the listeners that the settings ask for. They have no clients yet.
+    ///
+    /// `NotBound` has the name of the refusal. Then the file of the control socket is gone.
+    pub(crate) fn open<R: Files<File = File> + Net + RandomSource, D>(
         context: &ServiceContext<'s, R, D>,
-    ) -> io::Result<Control<'s>> {
+    ) -> Result<Control<'s>, NotBound> {
         let ServiceContext {
             rt,
             alloc,
             settings,
             ..
         } = *context;
-        let clients = Clients::new(rt, alloc)?;
-        Ok(Control {
+        let clients = match Clients::new(rt, alloc) {
+            Ok(clients) => clients,
+            Err(error) => return Err(NotBound::of(&error, "Control")),
+        };
+        let mut control = Control {
             settings,
             alloc,
             clients,
@@ -64,17 +68,14 @@ impl<'s> Control<'s> {
             table: SocketTable::open(rt),
             is_behind: false,
             ended: None,
-        })
-    }
-
-    /// Binds the listeners that the settings ask for.
-    pub(crate) fn open<R: Files + Net + RandomSource>(&mut self, rt: &R) -> Result<(), NotBound> {
-        let Settings {
-            control,
-            metrics,
-            ..
-        } = *self.settings;
-        self.clients.bind(rt, control, metrics)
+        };
+        match control.clients.bind(rt, settings.control, settings.metrics) {
+            Ok(()) => Ok(control),
+            Err(fault) => {
+                control.close(rt);
+                Err(fault)
+            }
+        }
     }
 
     /// Takes the system's table of sockets, if there is one.
@@ -100,29 +101,29 @@ impl<'s> Control<'s> {
     pub(crate) fn run<R: Clock + Eprint + Wait, J: LedgerSet>(
         &mut self,
         log: &Journal<'_, R>,
-        desk: &mut ApiHandler<'_, J>,
+        handler: &mut ApiHandler<'_, J>,
         opened: Instant,
     ) {
         self.begin(log);
         // Nothing is logged if there is no memory for the log's state.
         let (calls, trace) = (self.settings.calls, self.settings.trace_path());
-        let (plan, watch) = (desk.exchange.plan(), desk.watch);
+        let (plan, watch) = (handler.exchange.plan(), handler.watch);
         let now = moment(log.rt(), opened, 0);
         let lines = self.settings.call_lines;
-        let mut told = LogState::new(log, self.alloc, plan, watch, calls, trace, lines, now).ok();
-        let now = self.go_on(log, desk, &mut told, opened);
-        if let Some(told) = &mut told {
-            told.end_rounds();
-            self.tell(log, desk, told, now);
+        let mut state = LogState::new(log, self.alloc, plan, watch, calls, trace, lines, now).ok();
+        let now = self.run_rounds(log, handler, &mut state, opened);
+        if let Some(state) = &mut state {
+            state.end_rounds();
+            self.log_due_lines(log, handler, state, now);
         }
     }
 
     // Runs the rounds of `run`. Returns the moment of the last one.
-    fn go_on<R: Clock + Eprint + Wait, J: LedgerSet>(
+    fn run_rounds<R: Clock + Eprint + Wait, J: LedgerSet>(
         &mut self,
         log: &Journal<'_, R>,
-        desk: &mut ApiHandler<'_, J>,
-        told: &mut Option<LogState<'_>>,
+        handler: &mut ApiHandler<'_, J>,
+        state: &mut Option<LogState<'_>>,
         opened: Instant,
     ) -> u64 {
         let rt = log.rt();
@@ -132,15 +133,15 @@ impl<'s> Control<'s> {
             self.clients.wait(if self.is_behind { 0 } else { WAIT_MS });
             // The end of the input stops the service as one `POST /stop` does.
             if self.clients.takes_end_of_input() {
-                desk.watch.lifecycle().stop();
+                handler.watch.lifecycle().stop();
             }
             now = moment(rt, opened, now);
             self.clients.admit(now);
-            self.serve_all(rt, desk, opened, now);
-            if let Some(told) = told {
-                self.tell(log, desk, told, now);
+            self.serve_all(rt, handler, opened, now);
+            if let Some(state) = state {
+                self.log_due_lines(log, handler, state, now);
             }
-            if self.go_round(rt, desk, &mut drain, now) {
+            if self.end_round(rt, handler, &mut drain, now) {
                 break;
             }
         }
@@ -148,16 +149,16 @@ impl<'s> Control<'s> {
     }
 
     // Ends a round once clients were served and the log was written. Returns whether it was the last.
-    fn go_round<R: Clock + Wait, J: LedgerSet>(
+    fn end_round<R: Clock + Wait, J: LedgerSet>(
         &mut self,
         rt: &R,
-        desk: &mut ApiHandler<'_, J>,
+        handler: &mut ApiHandler<'_, J>,
         drain: &mut Drain,
         now: u64,
     ) -> bool {
-        drain.go_on(rt, desk, now);
-        desk.look_for_rest(rt, self.alloc, now);
-        desk.watch.lifecycle().has_ended() && self.are_answered(now)
+        drain.go_on(rt, handler, now);
+        handler.look_for_rest(rt, self.alloc, now);
+        handler.watch.lifecycle().has_ended() && self.are_answered(now)
     }
 
     // Returns whether clients get no more answers once the workers are to end: all are sent, or the time for them is over.
@@ -168,50 +169,50 @@ impl<'s> Control<'s> {
     }
 
     // Writes the log lines that are due. Legs are counted, and losses are read, only when the log reports them.
-    fn tell<R: Clock + Eprint + Wait, J: LedgerSet>(
+    fn log_due_lines<R: Clock + Eprint + Wait, J: LedgerSet>(
         &mut self,
         log: &Journal<'_, R>,
-        desk: &mut ApiHandler<'_, J>,
-        told: &mut LogState<'_>,
+        handler: &mut ApiHandler<'_, J>,
+        state: &mut LogState<'_>,
         now: u64,
     ) {
-        let (rt, exchange) = (log.rt(), desk.exchange);
-        let tells_losses = told.tells_losses(now);
-        let tells_reach = told.tells_reach(now);
+        let (rt, exchange) = (log.rt(), handler.exchange);
+        let logs_losses = state.logs_losses(now);
+        let logs_reach = state.logs_reach(now);
         for place in 0..exchange.plan().peer_count() {
             let peer = PeerId::new(place);
-            if told.see_peer(log, peer, now) {
-                told.note_legs(peer, count_legs(rt, exchange, &mut desk.pass, peer));
+            if state.see_peer(log, peer, now) {
+                state.note_legs(peer, exchange.leg_count(rt, &mut handler.pass, peer));
             }
-            if tells_losses {
-                told.note_losses(peer, losses_of(rt, exchange, &mut desk.pass, peer));
+            if logs_losses {
+                state.note_losses(peer, losses_of(rt, exchange, &mut handler.pass, peer));
             }
-            if tells_reach {
-                let pokes = exchange.pokes(rt, &mut desk.pass, peer);
-                told.note_unanswered(
+            if logs_reach {
+                let pokes = exchange.pokes(rt, &mut handler.pass, peer);
+                state.note_unanswered(
                     peer,
                     pokes.unanswered_since(exchange.plan().rules(peer), now),
                 );
             }
         }
-        told.look(rt, log, self.alloc, now);
+        state.log_changes(rt, log, self.alloc, now);
     }
 
     // Serves each client as far as the system allows: first orders, then queries, then scrapes.
     fn serve_all<R: Clock + Wait, J: LedgerSet>(
         &mut self,
         rt: &R,
-        desk: &mut ApiHandler<'_, J>,
+        handler: &mut ApiHandler<'_, J>,
         opened: Instant,
         now: u64,
     ) {
         for place in 0..self.clients.count() {
             self.clients.hear(place, now);
         }
-        self.serve_orders(rt, desk, now);
-        self.serve_in_time(rt, desk, Urgency::Query, opened, now);
-        self.make_metrics(rt, desk, opened, now);
-        self.serve_in_time(rt, desk, Urgency::Metrics, opened, now);
+        self.serve_orders(rt, handler, now);
+        self.serve_in_time(rt, handler, Urgency::Query, opened, now);
+        self.make_metrics(rt, handler, opened, now);
+        self.serve_in_time(rt, handler, Urgency::Metrics, opened, now);
         for place in 0..self.clients.count() {
             self.clients.speak(place, now);
         }
@@ -223,12 +224,12 @@ impl<'s> Control<'s> {
     fn serve_orders<R: Wait, J: LedgerSet>(
         &mut self,
         rt: &R,
-        desk: &mut ApiHandler<'_, J>,
+        handler: &mut ApiHandler<'_, J>,
         now: u64,
     ) {
         for place in 0..self.clients.count() {
             if self.asks_at(place, Urgency::Order) {
-                self.serve(rt, desk, place, now);
+                self.serve(rt, handler, place, now);
             }
         }
     }
@@ -243,11 +244,11 @@ impl<'s> Control<'s> {
         is_there && self.clients.urgency(place) == Some(urgency)
     }
 
-    // Looks for new orders within a round, and answers them.
-    fn look_for_orders<R: Wait, J: LedgerSet>(
+    // Reads new orders within a round, and answers them.
+    fn serve_new_orders<R: Wait, J: LedgerSet>(
         &mut self,
         rt: &R,
-        desk: &mut ApiHandler<'_, J>,
+        handler: &mut ApiHandler<'_, J>,
         now: u64,
     ) {
         self.clients.admit_control(now);
@@ -256,14 +257,14 @@ impl<'s> Control<'s> {
                 self.clients.hear(place, now);
             }
         }
-        self.serve_orders(rt, desk, now);
+        self.serve_orders(rt, handler, now);
     }
 
     // Answers clients of this urgency one after another until the round's time is over, and at least one.
     fn serve_in_time<R: Clock + Wait, J: LedgerSet>(
         &mut self,
         rt: &R,
-        desk: &mut ApiHandler<'_, J>,
+        handler: &mut ApiHandler<'_, J>,
         urgency: Urgency,
         opened: Instant,
         now: u64,
@@ -271,7 +272,7 @@ impl<'s> Control<'s> {
         let begun = moment(rt, opened, now);
         for place in 0..self.clients.count() {
             if self.asks_at(place, urgency) {
-                self.serve(rt, desk, place, now);
+                self.serve(rt, handler, place, now);
                 if moment(rt, opened, begun).saturating_sub(begun) >= ROUND_MS {
                     return;
                 }
@@ -279,11 +280,11 @@ impl<'s> Control<'s> {
         }
     }
 
-    // Makes the metrics if a client waits for them and the kept ones are old. Between their parts it looks for orders.
+    // Makes the metrics if a client waits for them and the kept ones are old. Between their parts it answers new orders.
     fn make_metrics<R: Clock + Wait, J: LedgerSet>(
         &mut self,
         rt: &R,
-        desk: &mut ApiHandler<'_, J>,
+        handler: &mut ApiHandler<'_, J>,
         opened: Instant,
         now: u64,
     ) {
@@ -296,10 +297,10 @@ impl<'s> Control<'s> {
                 return;
             }
             now = moment(rt, opened, now);
-            if make_scrape(rt, self.alloc, desk, &mut self.kept, now).is_err() {
+            if make_scrape(rt, self.alloc, handler, &mut self.kept, now).is_err() {
                 return self.end_scraper();
             }
-            self.look_for_orders(rt, desk, now);
+            self.serve_new_orders(rt, handler, now);
         }
     }
 
@@ -334,14 +335,14 @@ impl<'s> Control<'s> {
     fn serve<R: Wait, J: LedgerSet>(
         &mut self,
         rt: &R,
-        desk: &mut ApiHandler<'_, J>,
+        handler: &mut ApiHandler<'_, J>,
         place: usize,
         now: u64,
     ) {
         let alloc = self.alloc;
         let answer = match self.clients.request(place) {
             Some((Door::Control, request)) => {
-                Some(control_answer(rt, alloc, &request, desk, now))
+                Some(control_answer(rt, alloc, &request, handler, now))
             }
             Some((Door::Metrics, request)) => answer_scrape(alloc, &self.kept, &request, now),
             None => None,
@@ -358,10 +359,10 @@ fn control_answer<R: Wait, J: LedgerSet>(
     rt: &R,
     alloc: Global,
     request: &Request<'_>,
-    desk: &mut ApiHandler<'_, J>,
+    handler: &mut ApiHandler<'_, J>,
     now: u64,
 ) -> Result<Vec<u8>, AllocError> {
-    match desk.answer(rt, alloc, request, now) {
+    match handler.answer(rt, alloc, request, now) {
         Ok(answer) => answer.octets(alloc),
         Err(error) => Err(error),
     }

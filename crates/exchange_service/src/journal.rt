@@ -1,4 +1,5 @@
 //! The log: lines on standard error, each with its time.
+use call_files::system_limits::{is_above, is_writable};
 use jiff::Timestamp;
 use log::kv::Source;
 use log::span::Spans;
@@ -7,7 +8,6 @@ use std::alloc::{AllocError, Global};
 use std::fmt::Display;
 use std::sync::atomic::{AtomicU64, Ordering};
 use std::time::{Clock, SystemTime};
-use system_limits::{is_above, is_writable};
 
 // The descriptor of standard error.
 const ERRORS: i32 = 2;
@@ -72,22 +72,22 @@ impl<'r, R: Clock + Eprint> Journal<'r, R> {
     }
 
     // Reports the number of lost lines, if there are any. Returns whether standard error takes lines.
-    fn tell_lost(&self) -> bool {
+    fn report_lost(&self) -> bool {
         let lost = self.lost.swap(0, Ordering::Relaxed);
         if lost == 0 {
             return true;
         }
-        let is_told = match self.line(
+        let is_reported = match self.line(
             "WARN",
             &format_args!("lines of the log that were lost: {lost}"),
         ) {
             Ok(line) => self.write(line.as_str()),
             Err(_) => false,
         };
-        if !is_told {
+        if !is_reported {
             self.lost.fetch_add(lost, Ordering::Relaxed);
         }
-        is_told
+        is_reported
     }
 }
 
@@ -100,7 +100,7 @@ impl<'r, R: Clock + Eprint> Log for Journal<'r, R> {
         if !self.level.allows(record.level()) {
             return;
         }
-        let is_written = self.tell_lost()
+        let is_written = self.report_lost()
             && match self.line(record.level().as_str(), record.args()) {
                 Ok(line) => self.write(line.as_str()),
                 Err(_) => false,

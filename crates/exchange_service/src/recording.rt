@@ -1,14 +1,14 @@
 //! The files that a running service writes: the records of ended legs, and the trace. Each has a thread that writes it.
-use crate::faults_told::tell_trace;
 use crate::open_service::OpenService;
 use crate::running::{Settings, TraceOptions};
 use crate::service_context::ServiceContext;
+use crate::start_faults::log_trace_fault;
 use crate::system::{ServiceDisk, ServiceSystem};
 use call_files::{Calendar, CallOutlets, CallRows, write_calls_beside};
 use jiff::Timestamp;
 use peer_lock::LedgerSet;
 use peer_plan::Plan;
-use service_log::{tell_end, tell_trace_end};
+use service_log::{log_call_file_end, log_trace_end};
 use service_state::ServiceWatch;
 use std::alloc::{AllocError, Global};
 use std::io::ErrorKind;
@@ -102,7 +102,7 @@ fn first_file<R: Clock + Eprint, D: Folder>(
         Ok(file) => Ok(file),
         Err(error) if error.kind() == ErrorKind::OutOfMemory => Err(ServiceError::Memory),
         Err(error) => {
-            tell_trace(&context.journal(), folder.path, &error);
+            log_trace_fault(&context.journal(), folder.path, &error);
             Err(ServiceError::Trace)
         }
     }
@@ -188,7 +188,11 @@ pub(crate) fn watch_of<'s, R: Clock + Eprint, D: Folder>(
 }
 
 // Runs a service, with a thread that writes the trace if one is wanted. Returns false if a thread was refused.
-fn serve_traced<R: Clock + Eprint + Threads + Wait + Sync, D: Folder + Sync, F: FnOnce() -> bool>(
+fn write_trace_if_wanted<
+    R: Clock + Eprint + Threads + Wait + Sync,
+    D: Folder + Sync,
+    F: FnOnce() -> bool,
+>(
     context: &ServiceContext<'_, R, D>,
     plan: &Plan,
     trace: Option<&Trace>,
@@ -217,17 +221,18 @@ fn serve_traced<R: Clock + Eprint + Threads + Wait + Sync, D: Folder + Sync, F: 
     };
     let ServiceContext { rt, disk, .. } = *context;
     let is_served = write_trace_beside(rt, disk, trace, plan, settings, notes, file, serve);
-    tell_trace_end(&context.journal(), folder.path, trace.state());
+    log_trace_end(&context.journal(), folder.path, trace.state());
     is_served
 }
 
 /// Runs a service, with the threads that write the rows of ended legs and the trace, if these are wanted. Returns false if
 /// a thread was refused. The log reports the rows that couldn't be written.
-pub(crate) fn serve_written<J: LedgerSet, R: ServiceSystem, D: ServiceDisk, F: FnOnce() -> bool>(
-    service: &OpenService<'_, R, D, J>,
-    written: &mut Written<'_>,
-    serve: F,
-) -> bool
+pub(crate) fn write_files_beside<
+    J: LedgerSet,
+    R: ServiceSystem,
+    D: ServiceDisk,
+    F: FnOnce() -> bool,
+>(service: &OpenService<'_, R, D, J>, written: &mut Written<'_>, serve: F) -> bool
     requires { F.pre serve }
 {
     let OpenService {
@@ -239,10 +244,10 @@ pub(crate) fn serve_written<J: LedgerSet, R: ServiceSystem, D: ServiceDisk, F: F
     let (plan, trace) = (exchange.plan(), watch.trace());
     let Written { records, tracing } = written;
     let Some(outlets) = watch.calls() else {
-        return serve_traced(context, plan, trace, tracing, serve);
+        return write_trace_if_wanted(context, plan, trace, tracing, serve);
     };
     let Some(records) = records.take() else {
-        return serve_traced(context, plan, trace, tracing, serve);
+        return write_trace_if_wanted(context, plan, trace, tracing, serve);
     };
     let Records {
         path,
@@ -251,11 +256,11 @@ pub(crate) fn serve_written<J: LedgerSet, R: ServiceSystem, D: ServiceDisk, F: F
     } = records;
     let serve_on = move ||
         requires { F.pre serve }
-    { serve_traced(context, plan, trace, tracing, serve) };
+    { write_trace_if_wanted(context, plan, trace, tracing, serve) };
     let ServiceContext { rt, disk, .. } = *context;
     let is_served = write_calls_beside(
         rt, disk, path, plan, calendar, opened, outlets, rows, serve_on,
     );
-    tell_end(&context.journal(), path, outlets.state());
+    log_call_file_end(&context.journal(), path, outlets.state());
     is_served
 }

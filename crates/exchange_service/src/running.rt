@@ -1,20 +1,20 @@
 //! A service: the workers of a plan carry calls until a stop.
-ghost use Rattle.std.specs.Prelude.{◌≡◌, ◌+◌, ◌≤◌, IfOk, IsOk, OnOk, if◌then◌else◌, is_ok, length, vec_len};
+ghost use Rattle.std.specs.Prelude.{◌≡◌, ◌+◌, ◌≤◌, IfOk, IsOk, OnOk, length};
 ghost use Rattle.peer_plan.specs.Reading.{plan_of};
 ghost use Rattle.worker_setup.specs.Reports.{HasServed};
 
 use crate::control::Control;
-use crate::faults_told::tell_not_bound;
 use crate::open_service::OpenService;
+use crate::opening::Opening;
 use crate::recording::watch_of;
-use crate::seating::serve_watched;
+use crate::seating::run_with_sockets;
 use crate::service_context::ServiceContext;
+use crate::start_faults::log_not_bound;
 use crate::system::{ServiceDisk, ServiceSystem};
 use control_server::NotBound;
-use exchange_core::{Exchange, NoGate, Pass};
+use exchange_core::{Exchange, NoGate};
 use log::LevelFilter;
-use media_ledger::Blank;
-use peer_lock::{LedgerSet, Service};
+use peer_lock::Service;
 use peer_plan::Plan;
 use service_log::CallLines;
 use std::fs::{File, Files};
@@ -22,11 +22,8 @@ use std::io::Write;
 use std::marker::Brand;
 use std::net::SocketAddr;
 use std::sync::ledger::Ledger;
-use std::time::Instant;
-use udp_workers::{PlanBrand, TurnReport};
-use worker_setup::{
-    ServiceError, first_serial, service_error_name, tell_served, with_drawn, with_spare_pass,
-};
+use udp_workers::PlanBrand;
+use worker_setup::{ServiceError, status_of, write_served};
 
 /// The settings of a service.
 #[derive(Clone, Copy)]
@@ -74,48 +71,9 @@ pub struct TraceOptions<'a> {
     pub shows_digits: bool,
 }
 
-// The values from which the exchange of a service is opened, and the moment of the opening.
-#[derive(Drop)]
-struct Opening {
-    plan: Plan,
-    octets: Blank,
-    steps: Blank,
-    // The serial of its first leg.
-    first_serial: u64,
-    opened: Instant,
-}
-
-// Runs the workers of the plan with a watch that is made for it. (The match has only two exits, and each drops the watch.)
-fn serve_beside<J: LedgerSet, P: PlanBrand + Send + Sync, R: ServiceSystem, D: ServiceDisk>(
-    context: &ServiceContext<'_, R, D>,
-    exchange: &Exchange<NoGate, J>,
-    passes: &mut Vec<Pass<J>>,
-    control: &mut Control<'_>,
-    opened: Instant,
-) -> Result<Vec<TurnReport>, ServiceError>
-    requires plan { exchange.now ≡ P.plan }
-    requires enough { length exchange.now.workers + 1 ≤ vec_len passes.old }
-    ensures { IfOk result (λ reports. vec_len reports ≡ length exchange.now.workers) }
-{
-    match watch_of(context, exchange.plan()) {
-        Ok(both) => {
-            let mut both = both;
-            let lent = &mut both;
-            let service = OpenService {
-                context,
-                exchange,
-                watch: &lent.0,
-                opened,
-            };
-            serve_watched::<J, P, R, D>(&service, &mut lent.1, passes, control)
-        }
-        Err(error) => Err(error),
-    }
-}
-
-// Runs the workers on an exchange that it opens, with the ledgers and the plan that the caller names. Then writes their reports
-// and the accounts.
-fn work<
+// Opens an exchange, with the ledgers and the plan that the caller names, and the files that are wanted. Runs the service on
+// them, and then writes the reports of its workers and its accounts.
+fn run_with_exchange<
     O: Ledger + Send + Sync,
     S: Ledger + Send + Sync,
     P: PlanBrand + Send + Sync,
@@ -143,6 +101,7 @@ fn work<
         first_serial,
         opened,
     } = opening;
+    // For the proof: a plan has few passes.
     let _passes = plan.passes();
     let exchange = Exchange::<NoGate, Service<O, S>>::open_at(
         context.alloc,
@@ -155,40 +114,21 @@ fn work<
     let Ok((exchange, mut passes)) = exchange else {
         return Err(ServiceError::Memory);
     };
-    let reports = serve_beside::<_, P, R, D>(context, &exchange, &mut passes, control, opened);
-    tell_served(reports, exchange, passes, writer)
-}
-
-// Runs the service of a valid plan.
-fn serve_plan<R: ServiceSystem, D: ServiceDisk, W: Write>(
-    context: &ServiceContext<'_, R, D>,
-    plan: Plan,
-    control: &mut Control<'_>,
-    writer: &mut W,
-) -> Result<(), ServiceError>
-    ensures { OnOk result (HasServed (length plan.workers) (W.contents writer.old) (W.contents writer.new)) }
-{
-    let rt = context.rt;
-    let Ok(opened) = Instant::now(rt) else {
-        return Err(ServiceError::Clock);
+    let reports = match watch_of(context, exchange.plan()) {
+        Ok(both) => {
+            let mut both = both;
+            let lent = &mut both;
+            let service = OpenService {
+                context,
+                exchange: &exchange,
+                watch: &lent.0,
+                opened,
+            };
+            run_with_sockets::<_, P, R, D>(&service, &mut lent.1, &mut passes, control)
+        }
+        Err(error) => Err(error),
     };
-    let first_serial = match first_serial(rt) {
-        Ok(serial) => serial,
-        Err(error) => return Err(error),
-    };
-    let plan = match with_drawn(rt, with_spare_pass(plan)) {
-        Ok(plan) => plan,
-        Err(error) => return Err(error),
-    };
-    let parts = u64::from(plan.peer_count()) + u64::from(plan.passes());
-    let opening = Opening {
-        plan,
-        octets: Blank::new(parts),
-        steps: Blank::new(parts),
-        first_serial,
-        opened,
-    };
-    work::<Brand, Brand, Brand, R, D, W>(context, opening, control, writer)
+    write_served(reports, exchange, passes, writer)
 }
 
 // Prints a refusal, and returns its status.
@@ -199,63 +139,16 @@ fn refuse<W: Write>(writer: &mut W, name: &str) -> u8
     1
 }
 
-// Returns the status for a listener that isn't bound, which the log names.
-fn refuse_way<R: ServiceSystem, D: ServiceDisk, W: Write>(
+// Prints the refusal of a listener that isn't bound, which the log names, and returns its status.
+fn refuse_listener<R: ServiceSystem, D: ServiceDisk, W: Write>(
     context: &ServiceContext<'_, R, D>,
     fault: NotBound,
     writer: &mut W,
 ) -> u8
     ensures { result ≡ 1 }
 {
-    tell_not_bound(&context.journal(), context.settings, fault);
+    log_not_bound(&context.journal(), context.settings, fault);
     refuse(writer, fault.name)
-}
-
-// Runs the service once the wanted listeners are bound. Afterwards the file of the control socket is gone.
-fn serve_open<R: ServiceSystem + Files<File = File>, D: ServiceDisk, W: Write>(
-    context: &ServiceContext<'_, R, D>,
-    plan: Plan,
-    control: &mut Control<'_>,
-    writer: &mut W,
-) -> u8
-    ensures status { result ≤ 1 }
-    ensures lines { result ≡ 0 → HasServed (length plan.workers) (W.contents writer.old) (W.contents writer.new) }
-{
-    let status = match control.open(context.rt) {
-        Ok(()) => status_of(serve_plan(context, plan, control, writer), writer),
-        Err(fault) => refuse_way(context, fault, writer),
-    };
-    control.close(context.rt);
-    status
-}
-
-// Runs it with the limits that the listeners need of the system.
-fn serve_through<R: ServiceSystem + Files<File = File>, D: ServiceDisk, W: Write>(
-    context: &ServiceContext<'_, R, D>,
-    plan: Plan,
-    writer: &mut W,
-) -> u8
-    ensures status { result ≤ 1 }
-    ensures lines { result ≡ 0 → HasServed (length plan.workers) (W.contents writer.old) (W.contents writer.new) }
-{
-    match Control::new(context) {
-        Ok(mut control) => serve_open(context, plan, &mut control, writer),
-        Err(error) => refuse_way(context, NotBound::of(&error, "Control"), writer),
-    }
-}
-
-// Returns the status, and prints a refusal.
-fn status_of<W: Write>(served: Result<(), ServiceError>, writer: &mut W) -> u8
-    ensures status { result ≡ (if is_ok served then 0 else 1) }
-    ensures same { IsOk served → writer.new ≡ writer.old }
-{
-    match served {
-        Ok(()) => 0,
-        Err(error) => match service_error_name(error) {
-            Some(name) => refuse(writer, name),
-            None => 1,
-        },
-    }
 }
 
 /// Runs the workers of a plan until a client of the control socket stops them, or without end if there is no such socket.
@@ -290,7 +183,23 @@ pub fn run<R: ServiceSystem + Files<File = File>, D: ServiceDisk, W: Write>(
         (λ plan. HasServed (length plan.workers) (W.contents writer.old) (W.contents writer.new)) }
 {
     match Plan::read(context.alloc, plan) {
-        Ok(plan) => serve_through(context, plan, writer),
+        Ok(plan) => match Control::open(context) {
+            Ok(mut control) => {
+                let served = match Opening::of(context.rt, plan) {
+                    Ok(opening) => run_with_exchange::<Brand, Brand, Brand, R, D, W>(
+                        context,
+                        opening,
+                        &mut control,
+                        writer,
+                    ),
+                    Err(error) => Err(error),
+                };
+                let status = status_of(served, writer);
+                control.close(context.rt);
+                status
+            }
+            Err(fault) => refuse_listener(context, fault, writer),
+        },
         Err(fault) => {
             let _ = writeln!(writer, "refused {fault}");
             1

@@ -20,7 +20,7 @@ use Rattle.peer_lock.specs.declared.errors.OpenError.{OpenError}
 use Rattle.laws_of_calls.specs.Stored.{Stored, ArePeers, AreSeenIn}
 use Rattle.laws_of_calls.specs.StoredSteps.{heard_of, TakesDatagram, RejectsNew, TakesNew, SendsNew, Obeys, Disobeys, TakesOrder}
 use Rattle.laws_of_calls.specs.StoredSteps.{TakesTick, GivesUp, AtPeer, leases_after}
-use Rattle.call_control.proofs.WorldLegs.{found_seen}
+use Rattle.laws_of_calls.proofs.WorldLegs.{found_seen}
 use Rattle.laws_of_calls.proofs.Names.{done_there}
 use Rattle.laws_of_calls.proofs.Places.{seen_set}
 use Rattle.laws_of_calls.proofs.WorldSteps.{PeersSteps, ComesOut, IsSceneOf}

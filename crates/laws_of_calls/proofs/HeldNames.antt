@@ -14,7 +14,7 @@ use Rattle.peer_lock.specs.Peer.{PeerView}
 use Rattle.peer_lock.specs.Seen.{SeenNamed, seen_named}
 use Rattle.call_book.proofs.NameLaws.{is_same_itself, same_name, bit, one_per_number}
 use Rattle.call_control.proofs.Held.{found_at}
-use Rattle.call_control.proofs.WorldLegs.{found_seen, none_seen}
+use Rattle.laws_of_calls.proofs.WorldLegs.{found_seen, none_seen}
 use Rattle.laws_of_calls.specs.Stored.{Stored}
 use Rattle.laws_of_calls.specs.StoredNames.{has_leg_in, has_leg, NamesAreHeldOnce, LegsAreBooked, NumbersServeOne, LeasesAreFree}
 use Rattle.laws_of_calls.proofs.Called.{times_append}

@@ -14,5 +14,6 @@ mod HeldNames
 mod AtOnce
 mod Made
 mod Locked
-mod Freshness
-mod Following
+pub mod PeerSteps
+pub mod WorldLegs
+mod LeftDatagrams

@@ -12,7 +12,7 @@ use Rattle.peer_lock.specs.Legs.{leg_at}
 use Rattle.peer_lock.specs.Peer.{PeerView}
 use Rattle.peer_lock.specs.SoundPeer.{IsSoundPeer}
 use Rattle.peer_lock.specs.Statuses.{status_of}
-use Rattle.laws_of_calls.specs.PeerCalls.{Stays, HearsDatagram, HearsNewWithoutNumber, HearsNew, Calls, GoesOn, Retires}
+use Rattle.laws_of_calls.specs.PeerCalls.{Stays, ReceivesDatagram, ReceivesNewWithoutNumber, ReceivesNew, Calls, GoesOn, Retires}
 use Rattle.laws_of_calls.specs.PeerCalls.{with_peer, IsStepAt}
 use Rattle.laws_of_calls.specs.Stored.{Stored}
 use Rattle.laws_of_calls.specs.StoredSteps.{AtPeer, Answers, Makes, TakesOrder, look_at}
@@ -36,17 +36,17 @@ stays place old before after reply answer there s = record {
   answers = s.answers;
 }
 
-pub datagrams : (place : ℕ) → IsStepAt place (needs.Datagram place) HearsDatagram
+pub datagrams : (place : ℕ) → IsStepAt place (needs.Datagram place) ReceivesDatagram
 datagrams place old before after reply there sound (inl d) = inl (at place _ old before after reply there sound d)
 datagrams place old before after reply there sound (inr s) =
     inr (record { error = s.0; unchanged = stays place old before after reply (replies.Datagram (Err s.0)) there s.1 })
 
-pub rejected_calls : (place : ℕ) → IsStepAt place (needs.RejectNew place) HearsNewWithoutNumber
+pub rejected_calls : (place : ℕ) → IsStepAt place (needs.RejectNew place) ReceivesNewWithoutNumber
 rejected_calls place old before after reply there sound (inl d) = inl (at place _ old before after reply there sound d)
 rejected_calls place old before after reply there sound (inr s) =
     inr (record { error = s.0; unchanged = stays place old before after reply (replies.RejectNew (Err s.0)) there s.1 })
 
-pub calls_in : (name : LegName) → IsStepAt name.peer (needs.OpenIn name) (HearsNew name)
+pub calls_in : (name : LegName) → IsStepAt name.peer (needs.OpenIn name) (ReceivesNew name)
 calls_in name old before after reply there sound (inl d) = inl (at name.peer _ old before after reply there sound d)
 calls_in name old before after reply there sound (inr s) =
     inr (record { error = s.0; unchanged = stays name.peer old before after reply (replies.OpenIn (Err s.0)) there s.1 })

@@ -5,4 +5,4 @@ pub mod Runs
 pub mod Spent
 pub mod LookedAfter
 pub mod StoredNames
-pub mod Ends
+pub mod DatagramsLeft

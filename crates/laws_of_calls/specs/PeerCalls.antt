@@ -21,18 +21,18 @@ pub record Stays (answer : Reply) (old new : PeerView) (reply : Reply) : Type 0 
   pub answers : reply ≡ answer
 
 -- a datagram comes
-abbrev pub HearsDatagram : PeerView → PeerView → Reply → Type 0
-HearsDatagram old new reply =
+abbrev pub ReceivesDatagram : PeerView → PeerView → Reply → Type 0
+ReceivesDatagram old new reply =
     TakesDatagram old new reply ⊎ ((error : PeerError) × Stays (replies.Datagram (Err error)) old new reply)
 
 -- a NEW comes for which no number is free
-abbrev pub HearsNewWithoutNumber : PeerView → PeerView → Reply → Type 0
-HearsNewWithoutNumber old new reply =
+abbrev pub ReceivesNewWithoutNumber : PeerView → PeerView → Reply → Type 0
+ReceivesNewWithoutNumber old new reply =
     RejectsNew old new reply ⊎ ((error : RejectError) × Stays (replies.RejectNew (Err error)) old new reply)
 
 -- a NEW comes for which a name was given out
-abbrev pub HearsNew : LegName → PeerView → PeerView → Reply → Type 0
-HearsNew name old new reply =
+abbrev pub ReceivesNew : LegName → PeerView → PeerView → Reply → Type 0
+ReceivesNew name old new reply =
     TakesNew name old new reply ⊎ ((error : OpenError) × Stays (replies.OpenIn (Err error)) old new reply)
 
 -- a call is to be placed under a name

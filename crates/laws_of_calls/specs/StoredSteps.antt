@@ -1,8 +1,8 @@
 -- The effect of one step of a call on the stored exchange, and its answer. It is one locked section, in which one peer
 -- makes a step, the book does, or nothing changes. The effect on a peer is stated as in the clauses of `PeerState`, that on
 -- the book as in those of `CallBook`.
-use Rattle.std.specs.Prelude.{◌≡◌, ◌⊎◌, ◌↔◌, ℕ, Bool, true, false, List, ◌∷◌, Option, None, Some, Result, Ok, Err, option_map}
-use Rattle.std.specs.Prelude.{slice_get, slice_set, All, IsTrue, if◌then◌else◌}
+use Rattle.std.specs.Prelude.{◌≡◌, ◌⊎◌, ◌↔◌, ℕ, true, false, List, ◌∷◌, Option, None, Some, Ok, Err, option_map}
+use Rattle.std.specs.Prelude.{slice_get, slice_set, All, IsTrue}
 use Rattle.call_book.specs.Book.{Book, after_bridge, after_release, after_reserve, bridge_answer, has_name, partner_of}
 use Rattle.call_book.specs.Book.{release_answer, reserve_answer}
 use Rattle.call_book.specs.declared.leg_name.LegName.{LegName}

@@ -16,7 +16,8 @@ ghost use Rattle.call_control.specs.declared.reply.Reply.TheVariants as replies;
 ghost use Rattle.peer_lock.specs.Legs.{leg_at};
 ghost use Rattle.peer_lock.specs.Peer.{PeerView};
 ghost use Rattle.peer_lock.specs.Statuses.{status_of};
-ghost use Rattle.laws_of_calls.specs.PeerCalls.{HearsDatagram, HearsNewWithoutNumber, HearsNew, Calls, GoesOn, Retires, IsStepAt};
+ghost use Rattle.laws_of_calls.specs.PeerCalls.{ReceivesDatagram, ReceivesNewWithoutNumber, ReceivesNew, Calls, GoesOn};
+ghost use Rattle.laws_of_calls.specs.PeerCalls.{Retires, IsStepAt};
 ghost use Rattle.laws_of_calls.specs.PeerCalls.{with_book};
 ghost use Rattle.laws_of_calls.specs.StoredSteps.{Makes, TakesOrder};
 ghost use Rattle.laws_of_calls.specs.Runs.{Begins, Steps, TakesOut, SetsDraining, Changes, IsRun, last_of};
@@ -49,15 +50,15 @@ pub fn stored_changes_are_the_worlds()
     ensures ranges { (old new : Stored) → ArePeers old.peers → HaveRanges old → Changes old new → HaveRanges new }
 {
     call_control::laws::calls_at_once();
-    call_control::laws::peers_steps_are_the_worlds();
+    crate::calls::peers_steps_are_the_worlds();
 }
 
 /// A call of a peer or of the book (`peer_calls`, `book_calls`) is the step of the exchange that was needed.
 pub fn locked_calls_are_steps()
     // The peer is sound after the call, by the invariant of its type (`PeerState::look`).
-    ensures datagrams { (place : ℕ) → IsStepAt place (needs.Datagram place) HearsDatagram }
-    ensures rejected_calls { (place : ℕ) → IsStepAt place (needs.RejectNew place) HearsNewWithoutNumber }
-    ensures calls_in { (name : LegName) → IsStepAt name.peer (needs.OpenIn name) (HearsNew name) }
+    ensures datagrams { (place : ℕ) → IsStepAt place (needs.Datagram place) ReceivesDatagram }
+    ensures rejected_calls { (place : ℕ) → IsStepAt place (needs.RejectNew place) ReceivesNewWithoutNumber }
+    ensures calls_in { (name : LegName) → IsStepAt name.peer (needs.OpenIn name) (ReceivesNew name) }
     ensures calls_out { (name : LegName) → IsStepAt name.peer (needs.OpenOut name) (Calls name) }
     ensures orders { (name : LegName) (command : Command MediaSpan) →
         IsStepAt name.peer (needs.Order name command) (TakesOrder name command) }

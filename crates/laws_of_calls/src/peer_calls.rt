@@ -7,7 +7,7 @@ ghost use Rattle.leg_machine.specs.OrderTable.{IsShortMedia};
 ghost use Rattle.leg_machine.specs.Seen.{kind_of};
 ghost use Rattle.peer_accounts.specs.HandedUp.{IsNothing};
 ghost use Rattle.peer_lock.specs.Openings.{IsOpening};
-ghost use Rattle.laws_of_calls.specs.PeerCalls.{HearsDatagram, HearsNewWithoutNumber, HearsNew, Calls, GoesOn, Retires};
+ghost use Rattle.laws_of_calls.specs.PeerCalls.{ReceivesDatagram, ReceivesNewWithoutNumber, ReceivesNew, Calls, GoesOn, Retires};
 ghost use Rattle.laws_of_calls.specs.PeerCalls.{leases_in};
 ghost use Rattle.laws_of_calls.specs.StoredSteps.{TakesOrder, leases_after};
 
@@ -20,7 +20,7 @@ use peer_lock::{LedgerSet, Onwards, Pass, PeerState};
 
 /// Gives a datagram of at most 2,048 octets to a peer. The signals handed up are written to the empty list. The answer has
 /// the refusals of `PeerState::datagram`.
-pub fn hear<J: LedgerSet>(
+pub fn receive_datagram<J: LedgerSet>(
     peer: &mut PeerState<J>,
     pass: &mut Pass<J>,
     octets: &[u8],
@@ -28,7 +28,7 @@ pub fn hear<J: LedgerSet>(
     mut onwards: Onwards,
 ) -> Reply
     requires { IsNothing onwards }
-    ensures { HearsDatagram peer.old peer.new result }
+    ensures { ReceivesDatagram peer.old peer.new result }
 {
     match peer.datagram(pass, octets, now, &mut onwards) {
         Ok(step) => Reply::Datagram(Ok(StepReply {
@@ -42,13 +42,13 @@ pub fn hear<J: LedgerSet>(
 
 /// Rejects a received NEW at a peer because no number is free for its leg. It is a NEW that a datagram's call answers by
 /// `NeedsNumber`. The answer has the refusals of `PeerState::reject_new`.
-pub fn hear_new_without_number<J: LedgerSet>(
+pub fn receive_new_without_number<J: LedgerSet>(
     peer: &mut PeerState<J>,
     pass: &mut Pass<J>,
     frame: &Full,
 ) -> Reply
     requires { IsOpening frame.now }
-    ensures { HearsNewWithoutNumber peer.old peer.new result }
+    ensures { ReceivesNewWithoutNumber peer.old peer.new result }
 {
     match peer.reject_new(pass, frame) {
         Ok(_) => Reply::RejectNew(Ok(())),
@@ -58,7 +58,7 @@ pub fn hear_new_without_number<J: LedgerSet>(
 
 /// Opens a leg of a peer by a received NEW, under the lease, which comes back if no leg is opened. It is a NEW that a
 /// datagram's call answers by `NeedsNumber`. The answer has the refusals of `PeerState::open_in`.
-pub fn hear_new<J: LedgerSet>(
+pub fn receive_new<J: LedgerSet>(
     peer: &mut PeerState<J>,
     pass: &mut Pass<J>,
     lease: Lease,
@@ -69,7 +69,7 @@ pub fn hear_new<J: LedgerSet>(
 ) -> (Reply, Option<Lease>)
     requires opening { IsOpening frame.now }
     requires nothing { IsNothing onwards }
-    ensures made { HearsNew lease peer.old peer.new result.0 }
+    ensures made { ReceivesNew lease peer.old peer.new result.0 }
     ensures leases { leases_in result.1 ≡ leases_after (needs.OpenIn lease) result.0 (lease ∷ []) }
 {
     match peer.open_in(pass, lease, frame, now, challenge, &mut onwards) {

@@ -1,8 +1,8 @@
 -- The laws of legs by their local numbers: the leg in the list of places is found under its number, also after a write.
 use Rattle.std.proofs.Common.{◌≡◌, ◌≢◌, ℕ, zero, suc, ◌+◌, ◌-◌, ◌<◌, ◌≤◌, nat_le, inl, inr, true, List, [], ◌∷◌, length, Option}
-use Rattle.std.proofs.Common.{Some, None, slice_get, slice_set, refl, ap, arith}
+use Rattle.std.proofs.Common.{Some, None, slice_get, slice_set, refl, sym, ap, ◌∙◌, arith}
 use Rattle.std.proofs.lemmas.Bool.{cases_Bool, leb-true, le-leb}
-use Rattle.peer_legs.specs.Legs.{NamedLeg, PeerLegs, filled, leg_at, with_place}
+use Rattle.peer_legs.specs.Legs.{AreLegs, NamedLeg, PeerLegs, filled, leg_at, with_place}
 
 -- ---- an element of a list after a write
 
@@ -64,3 +64,10 @@ pub placed_there : (legs : PeerLegs) (number : ℕ) (place : Option NamedLeg) �
 placed_there legs number place first within =
     leg_at_place (with_place legs number place) number (number - legs.first) place (back legs.first number first)
     (slice_get-set_same legs.places (number - legs.first) place (in_place legs.first number (length legs.places) first within))
+
+-- a leg is under its own number
+pub own_number : (legs : PeerLegs) (number : ℕ) (named : NamedLeg) → AreLegs legs → leg_at legs number ≡ Some named
+    → named.name.number ≡ number
+own_number legs number named are at =
+    let here = stands_at legs number named at in
+    (are.named (number - legs.first) named here.place).1 ∙ sym (back legs.first number here.first)

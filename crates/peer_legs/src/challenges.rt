@@ -37,6 +37,7 @@ impl PeerLegs {
         ensures { result ≡ is_crowded self.now }
     {
         let waiting = challenged_count(&self.places);
+        // For the proof: there are at most 512 places.
         let _sound = self.count();
         self.places.len() <= 2 * waiting
     }

@@ -108,6 +108,7 @@ impl PeerLegs {
         ensures count { result ≡ length self.now.places }
         ensures sound { AreLegs self.now }
     {
+        // For the proof: the legs are sound.
         let _sound = &self.first;
         self.places.len()
     }
@@ -147,6 +148,7 @@ impl PeerLegs {
         ensures number { result ≡ number }
         ensures some { 1 ≤ result }
     {
+        // For the proof: the number is one of the peer's, and so not 0.
         let _place = self.place_of(number);
         let _sound = self.count();
         CallNumber::new(number)

@@ -172,7 +172,8 @@ datagram_carries law first peer octets (Mini mini) now s =
     least n m e = omega (arith, e)
 datagram_carries law first peer octets (Video video) now s = carries_own (length octets) _ (none (length octets))
 datagram_carries law first peer octets (Trunk trunk) now s =
-    carries_own (length octets) _ (entries_carry (length octets) first peer.legs peer.rules.is_hardened [] (is_timed trunk.command_data) 8
+    carries_own (length octets) _ (entries_carry (length octets) first peer.legs peer.rules.is_hardened [] (is_timed
+    trunk.command_data) 8
     peer.accounts.accepted (map entry_item trunk.entries)
     (same (8 + entries_len (is_timed trunk.command_data) (map entry_item trunk.entries)) (length octets)
     (trunk_len octets trunk s)))

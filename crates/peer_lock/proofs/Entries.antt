@@ -1,7 +1,8 @@
 -- The media of the entries of a trunk frame, one after another.
 use native.Mathlib.Omega.{arith}
 use Rattle.std.proofs.Common.{◌≡◌, ◌≤◌, ◌<◌, ℕ, zero, suc, ◌+◌, ◌*◌, Bool, true, List, [], ◌∷◌, ◌++◌, Option, None, length}
-use Rattle.std.proofs.Common.{append-nil, ap, refl, ◌∙◌, sym, subst, cond, false, Some, nat_le, replicate, slice_get, ◌&&◌, ◌||◌, ◌-◌}
+use Rattle.std.proofs.Common.{append-nil, ap, refl, ◌∙◌, sym, subst, cond, false, Some, nat_le, replicate, slice_get, ◌&&◌}
+use Rattle.std.proofs.Common.{◌||◌, ◌-◌}
 use Rattle.std.specs.Prelude.{not}
 use Rattle.std.proofs.lemmas.List.{append_assoc}
 use Rattle.std.proofs.Math.Nat.{add_assoc}
@@ -13,7 +14,7 @@ use Rattle.peer_accounts.specs.HandedUp.{HandedUp}
 use Rattle.peer_legs.specs.Legs.{NamedLeg, PeerLegs, AreLegs, has_remote, leg_at, leg_of_remote}
 use Rattle.peer_lock.specs.Peer.{PeerView}
 use Rattle.peer_lock.specs.TrunkEntries.{AreCounts, CountsEntry, count_of, drops_entries, has_its_share, taken_by, taker}
-use Rattle.peer_lock.proofs.SeenChanges.{own_number}
+use Rattle.peer_legs.proofs.PlaceLaws.{own_number}
 
 -- These entries are left, and this is the media that all of them give. The counts are those of the entries that were taken. Some
 -- entries are dropped in all, or none.
@@ -238,7 +239,8 @@ module _ (first : ℕ) (start : PeerView) (before : Credit) (total : MediaTaken)
       none_takes at span item items all counts now_counts drops true peer pass onwards left is
       (no_taker (has_its_share limited left.taken (leg_of_remote peer.legs item.0)) (leg_of_remote peer.legs item.0) share)
       (or_some drops (has_its_share limited left.taken (leg_of_remote peer.legs item.0)) share) len
-      (λ _. subst (λ (b : Bool). AreCounts peer.legs.first now_counts (cond b (number ∷ left.taken) left.taken)) not_counted its.1)
+      (λ _. subst (λ (b : Bool). AreCounts peer.legs.first now_counts (cond b (number ∷ left.taken) left.taken)) not_counted
+      its.1)
 
   -- an entry of the leg of a number was counted
   pub record IsCounted (legs : PeerLegs) (counts now_counts : List ℕ) (number : ℕ) : Type 0 where

@@ -63,7 +63,13 @@ few_pushed : (most number : ℕ) (queue : List QueueEntry) (e : QueueEntry) → 
     → call_entries e.number queue < most → call_entries number (queue ++ e ∷ []) ≤ most
 few_pushed most number queue e few less = elim (cases_Bool (e.number == number)) [
   | inl is ↦ subst (λ (n : ℕ). call_entries n (queue ++ e ∷ []) ≤ most) (eqb-true e.number number is)
-      (omega (arith, push_entries e.number queue e, ap {B = ℕ} (λ (b : Bool). if b then 1 else 0) (eq-eqb e.number e.number refl), less))
+      (omega (
+        arith,
+        push_entries e.number queue e,
+        ap {B = ℕ} (λ (b : Bool). if b then 1 else 0) (eq-eqb e.number e.number
+            refl),
+        less,
+      ))
   | inr is ↦ omega (arith, push_entries number queue e, ap {B = ℕ} (λ (b : Bool). if b then 1 else 0) is, few)
 ]
 
@@ -84,7 +90,8 @@ kept_queued peer queue since accounts e kept more counted queued room fewer = re
       (omega (arith, push_octets peer.rules.trunk_timestamps peer.queue e, room waiting));
   few_of_call = λ waiting number.
       subst (λ (q : List QueueEntry). call_entries number q ≤ most_entries peer.rules.trunk_timestamps) (sym more)
-      (few_pushed (most_entries peer.rules.trunk_timestamps) number peer.queue e (kept.few_of_call waiting number) (fewer waiting));
+      (few_pushed (most_entries peer.rules.trunk_timestamps) number peer.queue e (kept.few_of_call waiting number) (fewer
+      waiting));
 }
 
 -- .. and the queue was sent

@@ -354,7 +354,12 @@ resting_places stay (skipped ∷ skips) now (place ∷ places) all =
     (resting_place stay skipped now place (all 0 place (omega arith)))
     (resting_places stay skips now places (λ k d within. all (suc k) d (omega arith)))
 
-pub none_to_tick : IdleLegsStay → (start : PeerView) (now : ℕ) → length start.outbox.waiting ≤ 256
+-- the legs that rest stay at a tick
+abbrev pub RestingLegsStay : Type 0
+RestingLegsStay = (skips : List ℕ) (now : ℕ) (places : List (Option NamedLeg)) → All (λ place. is_resting place now ≡ true) places
+    → legs_tick skips places now ≡ record { places = places; datagrams = []; skipped = 0 }
+
+pub none_to_tick : RestingLegsStay → (start : PeerView) (now : ℕ) → length start.outbox.waiting ≤ 256
     → All (λ place. is_resting place now ≡ true) start.legs.places
     → TicksLegs start now 0 start
 none_to_tick stay start now short all = record {
@@ -368,4 +373,4 @@ none_to_tick stay start now short all = record {
 }
   where
     still : legs_tick [] start.legs.places now ≡ record { places = start.legs.places; datagrams = []; skipped = 0 }
-    still = resting_places stay [] now start.legs.places all
+    still = stay [] now start.legs.places all

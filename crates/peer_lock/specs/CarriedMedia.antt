@@ -22,18 +22,6 @@ abbrev pub handed_octets : List (LegName × Signal) → ℕ
 handed_octets [] = 0
 handed_octets (up ∷ signals) = signal_octets up.1 + handed_octets signals
 
--- Media begins at this place or behind it, and each further piece at the end of the one before it or behind. So no octet is in
--- two pieces.
-abbrev pub Ascends : ℕ → List (LegName × Signal) → Type 0
-Ascends at [] = Unit {0}
-Ascends at ((name, Media span) ∷ others) = (at ≤ span.start) × (span.start ≤ span.end) × Ascends span.end others
-Ascends at ((name, signal) ∷ others) = Ascends at others
-
--- a signal that isn't media
-abbrev pub HasNoSpan : LegName × Signal → Type 0
-HasNoSpan (name, Media span) = ⊥
-HasNoSpan (name, signal) = Unit {0}
-
 -- the step hands up media of the datagram alone, and takes credit for all of it
 pub record CarriesItsOwn (len : ℕ) (step : PeerStep) : Type 0 where
   pub within : AllByRecursion (LiesWithin len) step.signals

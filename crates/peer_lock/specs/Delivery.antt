@@ -32,6 +32,10 @@ use Rattle.peer_lock.specs.declared.unknown_calls.Answer.{Answer}
 use Rattle.peer_lock.specs.declared.unknown_calls.AnswerData.{AnswerData}
 use Rattle.peer_lock.specs.declared.unknown_calls.AnswerData.TheVariants as data_of
 
+-- the answer to a frame that belongs to no call
+abbrev pub UnknownAnswer : Type 0
+UnknownAnswer = Answer
+
 pub data Delivery : Type 0 where
   Reaches : (named : NamedLeg) → Delivery
   -- a NEW that no leg has yet

@@ -1,11 +1,9 @@
 pub mod Arrivals
 pub mod Asking
 pub mod CarriedMedia
-pub mod CarriedOn
 pub mod Delivery
 pub mod Descriptions
 pub mod Errors
-pub mod Loads
 pub mod Makes
 pub mod Openings
 pub mod Orders
@@ -13,7 +11,6 @@ pub mod Peer
 pub mod Pokes
 pub mod ReadDatagram
 pub mod Seen
-pub mod Sides
 pub mod SoundPeer
 pub mod Statuses
 pub mod Ticks

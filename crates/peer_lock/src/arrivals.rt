@@ -85,7 +85,7 @@ pub(crate) fn hand_up(onwards: &mut Onwards, named: &NamedLeg, signal: Option<Si
 
 impl<J: LedgerSet> PeerState<J> {
     // Gives a full frame to the leg of a number, and puts the leg's frames into the outbox.
-    fn hear(&mut self, number: u16, frame: &Full, now: u64) -> Result<Heard, StepError>
+    fn deliver(&mut self, number: u16, frame: &Full, now: u64) -> Result<Heard, StepError>
         requires short { length frame.now.payload ≤ 1388 }
         requires there { can_reach self.old.legs frame.now.head.source (leg_at self.old.legs number) ≡ true }
         ensures peer { OnOk result ((named : NamedLegValue) → leg_at self.old.legs number ≡ Some named →
@@ -105,6 +105,7 @@ impl<J: LedgerSet> PeerState<J> {
         ensures err { OnErr result (self.new ≡ self.old) }
         ensures no_memory { result ≡ Err StepError.Memory → WasRefused }
     {
+        // For the proof: each leg is under its own number.
         let _sound = self.legs.count();
         let own = self.legs.call_number(number);
         self.replies.clear();
@@ -189,7 +190,7 @@ impl<J: LedgerSet> PeerState<J> {
             return Err(PeerError::from(error));
         }
         onwards.reserve(1)?;
-        let heard = self.hear(number, frame, now)?;
+        let heard = self.deliver(number, frame, now)?;
         Ok(self.hand_on(pass, number, frame, heard, onwards))
     }
 

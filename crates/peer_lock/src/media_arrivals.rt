@@ -1,12 +1,12 @@
 //! The steps of a peer in which media arrives without a full frame ("Mini Frames", "Meta Frames").
-ghost use Rattle.std.specs.Prelude.{◌≡◌, ◌≢◌, ◌+◌, ◌<◌, ◌≤◌, ◌++◌, [], length, map, IfErr, IsSome, OnOk, OnErr, None};
+ghost use Rattle.std.specs.Prelude.{◌≡◌, ◌+◌, ◌<◌, ◌≤◌, ◌++◌, [], length, map, IsSome};
 ghost use Rattle.iax_frames.specs.TrunkFrame.{entry_item, is_timed};
 ghost use Rattle.peer_accounts.specs.Accounts.{with_accepted};
-ghost use Rattle.peer_lock.specs.Arrivals.{media_at, mini_media, mini_refused, trunk_media, entries_len};
-ghost use Rattle.peer_legs.specs.Legs.{leg_at, leg_of_remote};
+ghost use Rattle.peer_lock.specs.Arrivals.{media_at, trunk_media, entries_len};
+ghost use Rattle.peer_legs.specs.Legs.{leg_at};
 ghost use Rattle.peer_lock.specs.TrunkEntries.{drops_entries};
 ghost use Rattle.peer_accounts.specs.HandedUp.{IsNothing};
-ghost use Rattle.peer_lock.specs.Makes.{Takes, IsUnchanged, IsDue};
+ghost use Rattle.peer_lock.specs.Makes.{Takes};
 
 use crate::errors::PeerError;
 use crate::state::PeerState;

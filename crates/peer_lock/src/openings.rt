@@ -76,6 +76,7 @@ impl<J: LedgerSet> PeerState<J> {
         ensures number { result ≡ name.number }
         ensures some { 1 ≤ result }
     {
+        // For the proof: a leg's number isn't 0.
         let _sound = self.legs.count();
         CallNumber::new(name.number)
     }
@@ -214,6 +215,7 @@ impl<J: LedgerSet> PeerState<J> {
         ensures err { OnErr result (self.new ≡ self.old) }
         ensures no_memory { OnErr result WasRefused }
     {
+        // For the proof: the leg's record is legal.
         leg_machine::laws::steps_send_as_sides();
         let number = self.free_number(name);
         self.replies.clear();
@@ -227,6 +229,7 @@ impl<J: LedgerSet> PeerState<J> {
             now,
             &mut self.replies,
         )?;
+        // For the proof: the record's length, and the held frames in it.
         let _legal = leg.window().record();
         let _held = leg.window().held_len();
         put_all(&mut self.outbox, &self.replies);

@@ -1,7 +1,8 @@
 //! The way to the outbox: replies of legs, behind queued media of their calls, and trunk frames ("Meta Frames").
-ghost use Rattle.std.specs.Prelude.{◌≡◌, ◌≤◌, ◌&&◌, true, length, take};
+ghost use Rattle.std.specs.Prelude.{◌≡◌, ◌≤◌, ◌&&◌, true, length};
 ghost use Rattle.outbox.specs.Outbox.{put};
-ghost use Rattle.peer_lock.specs.Trunks.{has_any, waits, most_entries, begins_next, goes_ahead, outbox_after, queue_after, accounts_after};
+ghost use Rattle.peer_lock.specs.Trunks.{has_any, waits, most_entries, begins_next, goes_ahead, outbox_after, queue_after};
+ghost use Rattle.peer_lock.specs.Trunks.{accounts_after};
 ghost use Rattle.trunk_packer.specs.Queue.{media_octets, trunk_octets};
 
 use iax_frames::CallNumber;
@@ -18,6 +19,7 @@ pub(crate) const ENTRIES_OF_A_CALL: usize = 16;
 pub(crate) fn put_all(outbox: &mut Outbox, replies: &Replies)
     ensures { outbox.new ≡ put outbox.old replies.now }
 {
+    // For the proof: at most 256 datagrams wait.
     let _ = outbox.is_full();
     for place in 0..replies.len() {
         outbox.put(replies.get(place).unwrap());

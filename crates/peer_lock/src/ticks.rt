@@ -21,6 +21,7 @@ impl<J: LedgerSet> PeerState<J> {
     fn poke_if_due(&mut self, now: u64)
         ensures { self.new ≡ asked self.old now }
     {
+        // For the proof: at most 256 datagrams wait.
         let _ = self.outbox.is_full();
         if !self.pokes.is_due(&self.rules, now) {
             return;
@@ -46,6 +47,7 @@ impl<J: LedgerSet> PeerState<J> {
             result ≡ (place_tick result place now).skipped }
         ensures few { result ≤ 2 }
     {
+        // For the proof: at most 256 datagrams wait.
         let _ = self.outbox.is_full();
         self.replies.clear();
         let skipped = self.legs.tick(index, now, &mut self.replies);
@@ -68,6 +70,7 @@ impl<J: LedgerSet> PeerState<J> {
         ensures few { result ≤ 2 ^ 15 }
         ensures outbox { length self.now.outbox.waiting ≤ 256 }
     {
+        // For the proof: at most 256 datagrams wait.
         let _ = self.outbox.is_full();
         self.legs.count()
     }
@@ -76,7 +79,8 @@ impl<J: LedgerSet> PeerState<J> {
     fn tick_legs(&mut self, now: u64) -> u32
         ensures { TicksLegs self.old now result self.new }
     {
-        leg_machine::laws::idle_legs_stay();
+        // For the proof: the tick of legs that rest changes nothing.
+        crate::laws::resting_legs_stay();
         let count = self.place_count();
         if self.legs.are_resting(now) {
             return 0;
@@ -110,6 +114,7 @@ impl<J: LedgerSet> PeerState<J> {
         ensures queued { self.now.accounts.queued ≡ media_octets self.now.queue }
         ensures few { result ≤ 16384 }
     {
+        // For the proof: the queue has at most 16,384 octets of media.
         let _ = &self.queue;
         self.queue.queued().1
     }
@@ -118,6 +123,7 @@ impl<J: LedgerSet> PeerState<J> {
     fn pack(&mut self, now: u64) -> u64
         ensures { PacksMedia self.old now result self.new }
     {
+        // For the proof: the octets that wait fit their type.
         let _waiting = self.waiting();
         let mut packed = 0;
         while let Some(octets) = self.pack_one(now) {

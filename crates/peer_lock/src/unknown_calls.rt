@@ -3,7 +3,8 @@
 ghost use Rattle.std.specs.Prelude.{◌≡◌, ◌≢◌, true, false, None, Some, IfOk, IfErr, OnOk, OnErr};
 ghost use Rattle.peer_accounts.specs.Accounts.{with_step as with_credit};
 ghost use Rattle.peer_lock.specs.Arrivals.{answering, delivered_step};
-ghost use Rattle.peer_lock.specs.Delivery.{answer_data, closed_to_calls, delivery_refused, legless, let_in, newcomer, unknown_call, Gets, Pongs};
+ghost use Rattle.peer_lock.specs.Delivery.{answer_data, closed_to_calls, delivery_refused, legless, let_in, newcomer};
+ghost use Rattle.peer_lock.specs.Delivery.{unknown_call, Gets, Pongs};
 ghost use Rattle.peer_lock.specs.Delivery as answers;
 ghost use Rattle.peer_lock.specs.Makes.{MakesAlone};
 ghost use Rattle.peer_lock.specs.Peer.{no_leg};
@@ -265,11 +266,13 @@ impl<J: LedgerSet> PeerState<J> {
             self.new ≡ (answering self.old answer).peer) }
         ensures answer { OnOk result ((answer : AnswerValue) ×
             (unknown_call (closed_to_calls self.old) self.old.rules frame.now now ≡ Gets answer)) }
-        ensures step { IfOk result (λ step. (answer : AnswerValue) → unknown_call (closed_to_calls self.old) self.old.rules frame.now now
+        ensures step { IfOk result (λ step. (answer : AnswerValue) → unknown_call (closed_to_calls self.old) self.old.rules
+            frame.now now
             ≡ Gets answer →
             step ≡ (answering self.old answer).step) }
         ensures credit { OnOk result (pass.new ≡ with_credit pass.old 0) }
-        ensures refused { IfErr result (λ e. Some e ≡ delivery_refused (unknown_call (closed_to_calls self.old) self.old.rules frame.now
+        ensures refused { IfErr result (λ e. Some e ≡ delivery_refused (unknown_call (closed_to_calls self.old) self.old.rules
+            frame.now
             now)) }
         ensures err { OnErr result ((self.new ≡ self.old) × (pass.new ≡ pass.old)) }
     {
@@ -283,7 +286,8 @@ impl<J: LedgerSet> PeerState<J> {
         ensures peer { OnOk result (self.new ≡ (delivered_step J.first_octets self.old Pongs frame.now now).peer) }
         ensures step { IfOk result (λ step. step ≡ no_leg) }
         ensures credit { OnOk result (pass.new ≡ with_credit pass.old 0) }
-        ensures refused { IfErr result (λ e. (e ≡ errors.NoCall) × (answers_poke self.old.rules self.old.pokes frame.now.head ≡ false)) }
+        ensures refused { IfErr result (λ e. (e ≡ errors.NoCall) × (answers_poke self.old.rules self.old.pokes frame.now.head ≡
+            false)) }
         ensures err { OnErr result ((self.new ≡ self.old) × (pass.new ≡ pass.old)) }
     {
         if !self.pokes.is_answer(&self.rules, frame) {

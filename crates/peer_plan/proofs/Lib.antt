@@ -12,3 +12,4 @@ mod PlanLaws
 pub mod EndpointLaws
 mod PeerLaws
 mod DrawnPlans
+mod PlaceLaws

@@ -1,11 +1,5 @@
-//! Views of a script's replay: a ladder of the calls, a capture of all datagrams, and the records of its call legs.
+//! What is drawn of a replay: a ladder of the calls, and a capture of all datagrams. Nothing here waits, reads or writes.
 #![tactic(auto)]
 
-mod capturing;
-mod drawing;
-mod outcomes;
-mod recording;
-
-pub use capturing::write_capture;
-pub use drawing::{LadderForm, write_ladder};
-pub use recording::write_records;
+pub mod capture;
+pub mod ladder;

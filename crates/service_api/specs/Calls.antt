@@ -6,7 +6,7 @@ use Rattle.control_requests.specs.Rows.{call_data, followed, list_text}
 use Rattle.control_requests.specs.declared.response.Response.{Response}
 use Rattle.control_requests.specs.declared.response.StatusCode.TheVariants as status
 use Rattle.control_requests.specs.declared.views.CallEntry.{CallEntry}
-use Rattle.exchange_report.specs.Names.{stage_text}
+use Rattle.exchange_core.specs.PrintedNames.{stage_text}
 use Rattle.peer_lock.specs.declared.descriptions.Description.{Description}
 use Rattle.peer_plan.specs.FormatNames.{format_name}
 use Rattle.peer_plan.specs.Plan.{IsInRange, PlanView, counts_of, range_of}

@@ -13,7 +13,7 @@ use Rattle.exchange_core.specs.Draining.{drained}
 use Rattle.exchange_core.specs.Names.{named_since}
 use Rattle.exchange_core.specs.declared.answers.CallError.{CallError}
 use Rattle.exchange_core.specs.declared.answers.CallError.TheVariants as call_errors
-use Rattle.exchange_report.specs.Names.{call_error_text, order_error_text}
+use Rattle.exchange_core.specs.PrintedNames.{call_error_text, order_error_text}
 use Rattle.peer_lock.specs.declared.errors.OrderError.{OrderError}
 use Rattle.peer_lock.specs.declared.steps.Status.{Status}
 use Rattle.peer_plan.specs.Plan.{IsInRange, PlanView, counts_of, range_of}

@@ -4,7 +4,7 @@ use Rattle.control_requests.specs.Rows.{followed, list_text, peer_data}
 use Rattle.control_requests.specs.declared.response.Response.{Response}
 use Rattle.control_requests.specs.declared.response.StatusCode.TheVariants as status
 use Rattle.control_requests.specs.declared.views.PeerRow.{PeerRow}
-use Rattle.exchange_report.specs.Losses.{LooksForLosses, frames_of}
+use Rattle.exchange_core.specs.Losses.{LooksForLosses, frames_of}
 use Rattle.peer_plan.specs.Plan.{PlanView, counts_of, range_of}
 use Rattle.serde_json.specs.Written.{compact_text}
 use Rattle.step_log.specs.Notes.{Noted, note}

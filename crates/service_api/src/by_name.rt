@@ -1,7 +1,6 @@
 //! The metrics that count by a peer and a name: datagrams that were refused or rejected, and authentication that failed.
 use crate::scraping::{Told, push_family};
-use exchange_core::Rejection;
-use exchange_report::{refusal_name, rejection_name};
+use exchange_core::{Rejection, refusal_name, rejection_name};
 use peer_plan::{PeerId, Plan};
 use service_state::{
     AUTH_FAILURES, Kind, Label, Labels, Metrics, REASONS, REFUSALS, REJECTIONS, Sample,

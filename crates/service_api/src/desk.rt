@@ -19,10 +19,9 @@ use control_requests::{
     Operation, OperationError, PlaceFault, PlaceOrder, Request, Response, Rows, StatusCode,
     accounts_body, call_body, operation_of, place_of,
 };
-use exchange_core::{CallError, Exchange, NoGate, Pass};
-use exchange_report::{call_error_name, peer_named};
+use exchange_core::{CallError, Exchange, NoGate, Pass, call_error_name};
 use peer_lock::LedgerSet;
-use peer_plan::PeerId;
+use peer_plan::{PeerId, peer_named};
 use service_state::ServiceWatch;
 use std::alloc::{AllocError, Global};
 use std::sync::Wait;

@@ -5,8 +5,7 @@ ghost use Rattle.service_api.specs.Orders.{CountsLegs, FindsLeg, IsKept};
 
 use crate::desk::ApiHandler;
 use call_book::LegName;
-use exchange_core::{Event, Exchange, NoGate, Pass, Retired, Watch};
-use exchange_report::{count_legs, order_error_name};
+use exchange_core::{Event, Exchange, NoGate, Pass, Retired, Watch, order_error_name};
 use leg_machine::Stage;
 use peer_lock::{LedgerSet, Status};
 use peer_plan::PeerId;
@@ -25,7 +24,7 @@ fn is_open(stage: Stage) -> bool {
 fn tell_retired(watch: &ServiceWatch, workers: usize, legs: &[Retired]) {
     let thread = u16::try_from(workers).unwrap_or(u16::MAX);
     for leg in legs {
-        watch.tell(Event::Retired {
+        watch.observe(Event::Retired {
             peer: leg.name.owner(),
         });
         watch.note_retired(thread, leg);
@@ -117,7 +116,7 @@ pub(crate) fn count_all<J: LedgerSet, R: Wait>(
     let mut legs: u32 = 0;
     for place in 0..exchange.plan().peer_count() {
         let peer = PeerId::new(place);
-        let count = count_legs(rt, exchange, pass, peer);
+        let count = exchange.leg_count(rt, pass, peer);
         legs = legs.saturating_add(u32::from(count));
     }
     legs
@@ -131,7 +130,7 @@ fn is_at_rest<J: LedgerSet, R: Wait>(
 ) -> bool {
     for place in 0..exchange.plan().peer_count() {
         let peer = PeerId::new(place);
-        if count_legs(rt, exchange, pass, peer) > 0 || exchange.sums(rt, pass, peer).queued > 0 {
+        if exchange.leg_count(rt, pass, peer) > 0 || exchange.sums(rt, pass, peer).queued > 0 {
             return false;
         }
     }

@@ -1,7 +1,6 @@
 //! The metrics of frames that full outboxes lost.
 use crate::scraping::{Told, push_family};
-use exchange_core::{Exchange, NoGate, Pass};
-use exchange_report::{PeerLosses, losses_of};
+use exchange_core::{Exchange, NoGate, Pass, PeerLosses, losses_of};
 use peer_lock::{LedgerSet, Losses};
 use peer_plan::PeerId;
 use service_state::{Kind, Label, Labels, Metrics, Sample};

@@ -3,8 +3,7 @@ ghost use Rattle.std.specs.Prelude.{◌<◌, OnOk, length};
 ghost use Rattle.service_api.specs.Peers.{AddsPeer, AsksPeer, IsPeerRow, TellsPeer, TellsPeers};
 
 use control_requests::{PeerRow, Rows};
-use exchange_core::{Exchange, NoGate, Pass};
-use exchange_report::{PeerLosses, count_legs, losses_of};
+use exchange_core::{Exchange, NoGate, Pass, PeerLosses, losses_of};
 use peer_lock::{LedgerSet, Pokes};
 use peer_plan::{Endpoint, PeerId, Plan};
 use service_state::{AUTH_FAILURES, ServiceWatch, reach_of};
@@ -30,7 +29,7 @@ fn count<J: LedgerSet, R: Wait>(
     ensures { AsksPeer peer result pass.old pass.new }
 {
     Counted {
-        legs: count_legs(rt, exchange, pass, peer),
+        legs: exchange.leg_count(rt, pass, peer),
         losses: losses_of(rt, exchange, pass, peer),
         pokes: exchange.pokes(rt, pass, peer),
     }

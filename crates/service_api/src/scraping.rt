@@ -14,7 +14,6 @@ use crate::kept_answer::KeptAnswer;
 use crate::lost_frames::push_losses;
 use control_requests::{Methods, Request, Response, StatusCode};
 use exchange_core::{Exchange, NoGate, Pass};
-use exchange_report::count_legs;
 use peer_lock::LedgerSet;
 use peer_plan::PeerId;
 use service_state::{
@@ -107,7 +106,7 @@ fn figures_of<'x, J: LedgerSet, R: Wait>(
     requires { peer < length exchange.now.peers }
     ensures { ShowsFigures exchange.now peer result pass.old pass.new }
 {
-    let legs = count_legs(rt, exchange, pass, peer);
+    let legs = exchange.leg_count(rt, pass, peer);
     let sums = exchange.sums(rt, pass, peer);
     let marks = watch.marks(peer);
     let plan = exchange.plan();

@@ -4,8 +4,7 @@ ghost use Rattle.service_api.specs.Calls.{AddsCall, Continues, IsCallRow, LooksU
 
 use call_book::LegName;
 use control_requests::{CallEntry, Rows};
-use exchange_core::{Exchange, NoGate, Pass};
-use exchange_report::stage_name;
+use exchange_core::{Exchange, NoGate, Pass, stage_name};
 use leg_machine::ElementText;
 use peer_lock::{Description, LedgerSet};
 use peer_plan::{PeerId, Plan, format_name};

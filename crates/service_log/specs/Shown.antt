@@ -2,8 +2,8 @@
 use Rattle.std.specs.Prelude.{ℕ, ◌==◌, ◌-◌, ◌/◌, ◌++◌, min, List, [], drop, length, codes, if◌then◌else◌}
 use Rattle.std.specs.List.{flat_map}
 use Rattle.plain_text.specs.Printable.{escaped, printable_octet}
-use Rattle.service_log.specs.declared.ends_told.ShownNumbers.{ShownNumbers}
-use Rattle.service_log.specs.declared.ends_told.ShownNumbers.TheVariants.{Full, LastFour, No}
+use Rattle.service_log.specs.declared.end_lines.ShownNumbers.{ShownNumbers}
+use Rattle.service_log.specs.declared.end_lines.ShownNumbers.TheVariants.{Full, LastFour, No}
 
 -- the octets of a number that are shown: all; the last four, and at most half of them; none
 abbrev pub shown_octets : ShownNumbers → List ℕ → List ℕ

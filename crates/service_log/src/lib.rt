@@ -1,20 +1,20 @@
 //! The log of a service, line by line.
 #![tactic(auto)]
 
-mod calls_told;
-mod drops_told;
-mod ends_told;
+mod call_file_lines;
+mod drop_lines;
+mod end_lines;
 mod lines;
+mod log_state;
 mod news;
-mod peer_told;
-mod start_told;
+mod output_log;
+mod peer_lines;
+mod start_lines;
 mod strangers;
-mod telling;
-mod trace_told;
-mod writer_told;
+mod trace_lines;
 
-pub use calls_told::tell_end;
-pub use ends_told::{CallLines, ShownNumbers};
-pub use start_told::tell_start;
-pub use telling::LogState;
-pub use trace_told::tell_trace_end;
+pub use call_file_lines::log_call_file_end;
+pub use end_lines::{CallLines, ShownNumbers};
+pub use log_state::LogState;
+pub use start_lines::log_start;
+pub use trace_lines::log_trace_end;

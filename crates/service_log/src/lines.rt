@@ -6,12 +6,12 @@ use std::fmt::Display;
 use std::net::{Ipv4Addr, SocketAddrV4};
 
 /// Writes a line if its level is logged.
-pub(crate) fn tell<L: Log, D: Display>(log: &L, level: Level, line: &D) {
+pub(crate) fn log_line<L: Log, D: Display>(log: &L, level: Level, line: &D) {
     log!(log; level, "{line}");
 }
 
 /// Logs a count of events in a round of `seconds` seconds, unless it is 0.
-pub(crate) fn tell_count<L: Log, D: Display>(
+pub(crate) fn log_count<L: Log, D: Display>(
     log: &L,
     level: Level,
     what: &D,
@@ -23,10 +23,10 @@ pub(crate) fn tell_count<L: Log, D: Display>(
     }
 }
 
-/// Returns the increase of a count since it was last logged, and stores the count in `told`.
-pub(crate) fn more_than(told: &mut u64, count: u64) -> u64 {
-    let more = counted_since(*told, count);
-    *told = count;
+/// Returns the increase of a count since it was last logged, and stores the count in `logged`.
+pub(crate) fn more_than(logged: &mut u64, count: u64) -> u64 {
+    let more = counted_since(*logged, count);
+    *logged = count;
     more
 }
 

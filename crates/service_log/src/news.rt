@@ -1,7 +1,7 @@
 //! Log lines about a peer that answers for the first time, falls silent, or answers again.
 ghost use Rattle.std.specs.Prelude.{◌<◌, length};
 
-use crate::lines::tell;
+use crate::lines::log_line;
 use log::{Level, Log};
 use peer_plan::{PeerId, Plan};
 use service_state::News;
@@ -20,31 +20,31 @@ pub(crate) fn silence_limit(plan: &Plan, peer: PeerId) -> u64
 }
 
 // Silence is a warning only if the peer has legs.
-fn tell_silence<L: Log>(log: &L, name: &str, silent_ms: u64, legs: u16) {
+fn log_silence<L: Log>(log: &L, name: &str, silent_ms: u64, legs: u16) {
     let seconds = silent_ms / 1000;
     let silence = format_args!("{name} is silent for {seconds} s");
     if legs > 0 {
-        tell(
+        log_line(
             log,
             Level::Warn,
             &format_args!("{silence}, and has {legs} legs"),
         );
     } else {
-        tell(log, Level::Info, &silence);
+        log_line(log, Level::Info, &silence);
     }
 }
 
 // Logs the news of a peer that has `legs` legs.
-pub(crate) fn tell_news<L: Log>(log: &L, name: &str, news: News, legs: u16) {
+pub(crate) fn log_news<L: Log>(log: &L, name: &str, news: News, legs: u16) {
     match news {
         News::FirstWord => {
-            tell(
+            log_line(
                 log,
                 Level::Info,
                 &format_args!("{name} is heard for the first time"),
             );
         }
-        News::HeardAgain => tell(log, Level::Info, &format_args!("{name} is heard again")),
-        News::Silent(silent_ms) => tell_silence(log, name, silent_ms, legs),
+        News::HeardAgain => log_line(log, Level::Info, &format_args!("{name} is heard again")),
+        News::Silent(silent_ms) => log_silence(log, name, silent_ms, legs),
     }
 }

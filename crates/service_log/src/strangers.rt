@@ -1,5 +1,5 @@
 //! The strangers of a round of the log: the latest by address, the rest as one count.
-use crate::lines::{address_of, tell_count};
+use crate::lines::{address_of, log_count};
 use log::{Level, Log};
 use lru::LruCache;
 use peer_plan::Endpoint;
@@ -16,7 +16,7 @@ pub(crate) struct Strangers {
     latest: LruCache<SocketAddrV4, u64>,
     // The number of datagrams already logged. A stranger is counted before `see` gets its address. If it is logged in
     // between, it is one of the rest.
-    told: u64,
+    logged: u64,
 }
 
 impl Strangers {
@@ -27,7 +27,7 @@ impl Strangers {
         };
         Ok(Strangers {
             latest: LruCache::new(alloc, limit)?,
-            told: 0,
+            logged: 0,
         })
     }
 
@@ -42,29 +42,29 @@ impl Strangers {
     }
 
     // Logs a line for each of the latest strangers. Returns the number of datagrams that these sent.
-    fn tell_latest<L: Log>(&self, log: &L, seconds: u64) -> u64 {
+    fn log_latest<L: Log>(&self, log: &L, seconds: u64) -> u64 {
         let mut sum: u64 = 0;
         for (from, count) in self.latest.iter() {
             let what = format_args!("datagrams from stranger {from}");
-            tell_count(log, Level::Warn, &what, *count, seconds);
+            log_count(log, Level::Warn, &what, *count, seconds);
             sum = sum.saturating_add(*count);
         }
         sum
     }
 
     /// Ends a round of `seconds` seconds. `count` is the number of datagrams from strangers since the start.
-    pub(crate) fn tell<L: Log>(&mut self, log: &L, count: u64, seconds: u64) {
-        let named = self.tell_latest(log, seconds);
+    pub(crate) fn log_line<L: Log>(&mut self, log: &L, count: u64, seconds: u64) {
+        let named = self.log_latest(log, seconds);
         self.latest.clear();
-        self.told = self.told.saturating_add(named);
-        let rest = count.saturating_sub(self.told);
-        tell_count(
+        self.logged = self.logged.saturating_add(named);
+        let rest = count.saturating_sub(self.logged);
+        log_count(
             log,
             Level::Warn,
             &"datagrams from other strangers",
             rest,
             seconds,
         );
-        self.told = self.told.saturating_add(rest);
+        self.logged = self.logged.saturating_add(rest);
     }
 }

@@ -3,6 +3,7 @@
 #![tactic(auto)]
 
 mod authentication;
+mod call_rows;
 mod counting;
 mod drops;
 mod figures;
@@ -24,6 +25,7 @@ mod spelling;
 mod waker_table;
 
 pub use authentication::{AUTH_FAILURES, AuthFailure};
+pub use call_rows::call_row;
 pub use counting::count_drops_beside;
 pub use drops::drops_of;
 pub use figures::{Figure, PeerFigures};

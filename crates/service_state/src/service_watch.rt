@@ -2,6 +2,7 @@
 ghost use Rattle.std.specs.Prelude.{◌≡◌};
 
 use crate::authentication::AuthFailure;
+use crate::call_rows::call_row;
 use crate::lifecycle::Lifecycle;
 use crate::noted::Noted;
 use crate::peer_marks::{PeerMarks, PeerMarksRead, count_one};
@@ -10,7 +11,6 @@ use crate::waker_table::WakerTable;
 use call_files::CallOutlets;
 use call_records::{CallRow, reason_name};
 use exchange_core::{Event, Refusal, Rejection, Retired, ServiceStage, Watch};
-use exchange_report::call_row;
 use peer_plan::{Endpoint, PeerId, Plan, WorkerId};
 use std::alloc::{AllocError, Global};
 use std::mem;
@@ -347,7 +347,7 @@ impl Watch for ServiceWatch {
         self.lifecycle.stage()
     }
 
-    fn tell(&self, event: Event) {
+    fn observe(&self, event: Event) {
         match event {
             Event::Received {
                 peer,

@@ -1,10 +1,5 @@
-pub mod Booking
 pub mod Counted
-pub mod Fitting
-pub mod Leading
 pub mod Noting
 pub mod Stepping
-pub mod Orderly
-pub mod OrderlyTrails
 pub mod Sending
 pub mod Trails

@@ -1,4 +1,2 @@
-pub mod Followed
 pub mod Notes
 pub mod Stepped
-pub mod Trails

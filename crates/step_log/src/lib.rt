@@ -1,7 +1,6 @@
 //! States behind locks. Each step of a state is noted under the pass that makes it.
 #![tactic(auto)]
 
-pub mod laws;
 mod made;
 mod noted_book;
 mod noted_peer;

@@ -74,7 +74,7 @@ pub enum Made {
 }
 
 // Returns an answer without the lease that came back.
-pub(crate) fn told<T: Copy, E: Copy>(answer: &Result<T, (Lease, E)>) -> Result<T, E>
+pub(crate) fn noted_answer<T: Copy, E: Copy>(answer: &Result<T, (Lease, E)>) -> Result<T, E>
     ensures { result ≡ without_lease answer.now }
 {
     match answer {

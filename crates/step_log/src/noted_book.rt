@@ -6,7 +6,7 @@ ghost use Rattle.call_book.specs.Book.{reserve_answer};
 ghost use Rattle.step_log.specs.Notes.{note, without_lease};
 ghost use Rattle.step_log.specs.declared.made.Made.TheVariants as mades;
 
-use crate::made::{Made, push, told};
+use crate::made::{Made, noted_answer, push};
 use crate::pass::Pass;
 use call_book::{BridgeError, CallBook, Lease, LegName, PeerId, ReserveError, Stale};
 use peer_lock::LedgerSet;
@@ -134,7 +134,7 @@ impl NotedBook {
     {
         let name = lease.name();
         let answer = self.book.release(lease);
-        push(&mut pass.made, Made::Release(name, told(&answer)));
+        push(&mut pass.made, Made::Release(name, noted_answer(&answer)));
         answer
     }
 

@@ -12,7 +12,7 @@ ghost use Rattle.peer_lock.specs.Ticks.{WasTicked};
 ghost use Rattle.step_log.specs.Notes.{Notes, given_up, note, without_lease};
 ghost use Rattle.step_log.specs.declared.made.Made.TheVariants as mades;
 
-use crate::made::{Made, push, told};
+use crate::made::{Made, noted_answer, push};
 use crate::noted_peer::NotedPeer;
 use crate::pass::Pass;
 use crate::seen::Seen;
@@ -124,7 +124,7 @@ impl<J: LedgerSet> NotedPeer<J> {
             Octets::of(frame.payload()),
             now,
             Seen::of(challenge),
-            told(&answer),
+            noted_answer(&answer),
             handed,
         );
         push(&mut pass.made, made);
@@ -190,7 +190,7 @@ impl<J: LedgerSet> NotedPeer<J> {
             Seen::of(caller),
             format,
             now,
-            told(&answer),
+            noted_answer(&answer),
         );
         push(&mut pass.made, made);
         pass.stepped.step(self.number);

@@ -1,9 +1,9 @@
 //! A folder of the file system, and its files by their names.
+use call_files::system_limits::{refuse_exchanged, refuse_link, user};
 use std::fs::{DirBuilder, File, Files, Metadata, OpenOptions};
 use std::io::ErrorKind;
 use std::os::unix::fs::{DirBuilderExt, MetadataExt, OpenOptionsExt};
 use std::{fs, io};
-use system_limits::{refuse_exchanged, refuse_link, user};
 
 /// Makes folders and files by their names. Each type with `Files` has it. A thread can hold one, whatever the type of its
 /// maker's file system is.

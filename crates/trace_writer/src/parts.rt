@@ -1,12 +1,12 @@
 //! The files of a folder: a trace is written to one after another, and the oldest is overwritten.
 use crate::folder::Folder;
 use call_files::Fault;
+use call_files::system_limits::{ABOVE_LIMIT, file_size_limit, octets_below};
 use std::alloc::{AllocError, Global};
 use std::fs::File;
 use std::io;
 use std::io::Write;
 use std::os::unix::fs::FileExt;
-use system_limits::{ABOVE_LIMIT, file_size_limit, octets_below};
 
 // The number of files.
 const FILES: u64 = 8;
@@ -49,12 +49,6 @@ impl Drop for TraceFile {
             tail: _,
             limit: _,
         } = self;
-    }
-}
-
-fn fault_of(error: &io::Error) -> Fault {
-    Fault {
-        code: error.raw_os_error(),
     }
 }
 
@@ -130,7 +124,7 @@ impl TraceFolder<'_> {
         let place = file.place.wrapping_add(1) % FILES;
         match self.begin(disk, alloc, place) {
             Ok(file) => Ok(file),
-            Err(error) => Err(fault_of(&error)),
+            Err(error) => Err(Fault::of(&error)),
         }
     }
 
@@ -180,7 +174,7 @@ impl TraceFile {
         }
         if let Err(error) = self.put(lines) {
             self.end(&error);
-            return Err(fault_of(&error));
+            return Err(Fault::of(&error));
         }
         lines.truncate(length);
         self.length = self.length.saturating_add(length as u64);

@@ -134,7 +134,7 @@ impl Trace {
         TraceState {
             written: self.written.load(Ordering::SeqCst),
             lost: self.lost.load(Ordering::SeqCst),
-            fault: fault_of(self.fault.load(Ordering::SeqCst)),
+            fault: Fault::of_number(self.fault.load(Ordering::SeqCst)),
             left: self.left.load(Ordering::SeqCst),
         }
     }
@@ -181,7 +181,7 @@ impl Trace {
 
     /// Records that the writer gave up, and why.
     pub(crate) fn give_up(&self, fault: Fault) {
-        self.fault.store(number_of(fault), Ordering::SeqCst);
+        self.fault.store(fault.number(), Ordering::SeqCst);
         self.has_ended.store(true, Ordering::SeqCst);
     }
 
@@ -237,25 +237,4 @@ fn never_freed(alloc: Global, numbers: u16) -> Result<Vec<AtomicU64>, AllocError
         }
     }
     Ok(freed)
-}
-
-// Returns a fault as a number: 0 for none.
-fn number_of(fault: Fault) -> u64 {
-    match fault.code {
-        Some(code) => u64::from(code.cast_unsigned()) + 2,
-        None => 1,
-    }
-}
-
-fn fault_of(number: u64) -> Option<Fault> {
-    match number {
-        0 => None,
-        1 => Some(Fault { code: None }),
-        _ => match u32::try_from(number - 2) {
-            Ok(code) => Some(Fault {
-                code: Some(code.cast_signed()),
-            }),
-            Err(_) => Some(Fault { code: None }),
-        },
-    }
 }

@@ -1,4 +1,4 @@
 pub mod BitLaws
 pub mod CountLaws
 pub mod EndpointLaws
-pub mod ToldLaws
+pub mod ReadinessLaws

@@ -203,7 +203,7 @@ impl Wire for MioWire {
     fn receive(&mut self, octets: &mut [u8]) -> Result<Option<(usize, Endpoint)>, WireFault> {
         // A caller that doesn't wait still gets the datagrams that came since the last empty read.
         if self.sockets.are_empty() {
-            self.sockets.look(0);
+            self.sockets.poll_ready(0);
         }
         let found = self.sockets.receive(octets);
         match found {
@@ -228,7 +228,7 @@ impl Wire for MioWire {
 
     fn wait(&mut self, ms: u64) {
         let pause = pause_of(self.sockets.are_empty(), self.waits_short, ms);
-        self.sockets.look(pause);
+        self.sockets.poll_ready(pause);
     }
 
     fn peers(&self) -> &[Endpoint] {

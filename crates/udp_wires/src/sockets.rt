@@ -49,7 +49,7 @@ pub(crate) struct Sockets {
 }
 
 // Returns the sockets that may have a datagram: these, and those that the system reports.
-fn told(ready: SocketSet, events: &Events) -> SocketSet
+fn with_events(ready: SocketSet, events: &Events) -> SocketSet
     ensures { (place : ℕ) → place < 64 →
         Has result place ↔ (Has ready place ⊎ Any (λ event. (event_token event).0 ≡ place) (items events.now)) }
 {
@@ -183,7 +183,7 @@ impl Sockets {
         }
     }
 
-    /// Returns a waker, which ends `look` from any thread, or `None` if the system gives no eventfd.
+    /// Returns a waker, which ends `poll_ready` from any thread, or `None` if the system gives no eventfd.
     pub(crate) fn waker(&self) -> Option<WireWaker> {
         match Waker::new(self.poll.registry(), Token(PLACES)) {
             Ok(waker) => Some(WireWaker::over(waker)),
@@ -200,11 +200,11 @@ impl Sockets {
 
     /// Asks the system which sockets have a datagram. Waits for one, or for a waker, at most `ms` milliseconds. If the call
     /// fails, each socket may have one.
-    pub(crate) fn look(&mut self, ms: u64) {
+    pub(crate) fn poll_ready(&mut self, ms: u64) {
         let wait = Duration::from_millis(ms);
         let polled = self.poll.poll(&mut self.events, Some(wait));
         self.ready = if polled.is_ok() {
-            told(self.ready, &self.events)
+            with_events(self.ready, &self.events)
         } else {
             SocketSet::below(SOCKETS)
         };

@@ -1,17 +1,15 @@
 -- Laws of the datagrams that a turn takes out of outboxes.
-use Rattle.std.specs.Prelude.{All, ◌<◌}
-use Rattle.std.proofs.Common.{◌≡◌, ◌⊎◌, ℕ, ◌++◌, Bool, true, false, List, [], ◌∷◌, Option, None, Some, length, refl, sym, ap}
-use Rattle.std.proofs.Common.{subst, ◌∙◌, append-nil, inl, inr}
+use Rattle.std.proofs.Common.{◌≡◌, ℕ, ◌++◌, Bool, List, [], ◌∷◌, Option, None, Some, length, refl, sym}
+use Rattle.std.proofs.Common.{subst, ◌∙◌, inl, inr}
 use Rattle.std.proofs.lemmas.List.Elements.{All-cons, All-nil}
 use Rattle.exchange_core.specs.Leaving.{Departure}
 use Rattle.step_log.specs.Notes.{Noted, note}
-use Rattle.step_log.specs.declared.made.Made.{Made}
 use Rattle.step_log.specs.declared.made.Made.TheVariants as mades
 use Rattle.peer_plan.specs.Plan.{PlanView}
 use Rattle.peer_plan.specs.declared.endpoint.Endpoint.{Endpoint}
 use Rattle.udp_wires.specs.Parcels.{Parcel}
 use Rattle.udp_workers.specs.Handed.{GivesAll, GivesStep}
-use Rattle.udp_workers.specs.Emptied.{Empties, EmptiesDue, EmptiesIfDue, HandsOut, HasEmptied}
+use Rattle.udp_workers.specs.Emptied.{EmptiesDue, EmptiesIfDue, HandsOut, HasEmptied}
 use Rattle.udp_workers.specs.Served.{endpoint_at}
 use Rattle.udp_workers.specs.Ticked.{IsLater}
 use Rattle.udp_workers.proofs.HandingLaws.{gives_none, gives_on}

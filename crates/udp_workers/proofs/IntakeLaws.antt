@@ -85,7 +85,8 @@ IsLoad Bounded (arrival ∷ before) (Some weight) = Weigh (arrival ∷ before) w
 
 -- Datagrams were taken since the turn began, and this is their weight. The datagram that was left to the turn was the first
 -- of them; if there is none, it is still there.
-pub record TakesSoFar (told : Event → Type 0) (intake : Intake) (plan : PlanView) (turn : TurnView) (was here : Option Parcel) (load : Option Weight)
+pub record TakesSoFar (observed : Event → Type 0) (intake : Intake) (plan : PlanView) (turn : TurnView) (was here : Option Parcel)
+    (load : Option Weight)
     (count counted now_counted : ℕ)
     (old new : Noted) (before after : List Parcel) : Type 0 where
   pub arrivals : List Parcel
@@ -94,7 +95,7 @@ pub record TakesSoFar (told : Event → Type 0) (intake : Intake) (plan : PlanVi
   pub first : (arrivals ≡ []) × (here ≡ was) ⊎ BeginsWith was arrivals × (here ≡ None)
   pub loaded : IsLoad intake arrivals load
   pub taken : TakesAll plan turn arrivals old new
-  pub reports : ReportsAll told plan turn arrivals old new taken
+  pub reports : ReportsAll observed plan turn arrivals old new taken
   pub what_came : TakesWhatCame was here arrivals before after
 
 -- ---- what the wire gave
@@ -254,9 +255,10 @@ not_there here found is none = sym (ap (option_map (λ (d : Endpoint × Bor (Lis
 
 -- ---- a turn
 
-module _ (told : Event → Type 0) (intake : Intake) (plan : PlanView) (turn : TurnView) (was : Option Parcel) (counted : ℕ) (old : Noted)
+module _ (observed : Event → Type 0) (intake : Intake) (plan : PlanView) (turn : TurnView) (was : Option Parcel) (counted : ℕ) (old
+    : Noted)
     (came : List Parcel) where
-  pub takes_none : TakesSoFar told intake plan turn was was None 0 counted counted old old came came
+  pub takes_none : TakesSoFar observed intake plan turn was was None 0 counted counted old old came came
   takes_none = record {
     arrivals = [];
     counts = refl;
@@ -271,14 +273,14 @@ module _ (told : Event → Type 0) (intake : Intake) (plan : PlanView) (turn : T
   -- a datagram more
   pub takes_one : (here : Option Parcel) (load : Option Weight) (next : Weight) (arrival : Parcel) (count before after : ℕ)
       (mid new : Noted) (seen now : List Parcel)
-      → TakesSoFar told intake plan turn was here load count counted before old mid came seen
+      → TakesSoFar observed intake plan turn was here load count counted before old mid came seen
       → Fills here (Some arrival) seen now
       → (IsSome here → Some arrival ≡ here)
       → IsLoaded intake load arrival.octets (Some next)
       → IsTaken plan turn arrival mid new
-      → Reports told plan turn.stage turn.now arrival mid new
+      → Reports observed plan turn.stage turn.now arrival mid new
       → after ≡ before + 1
-      → TakesSoFar told intake plan turn was None (Some next) (count + 1) counted after old new came now
+      → TakesSoFar observed intake plan turn was None (Some next) (count + 1) counted after old new came now
   takes_one here load next arrival count before after mid new seen now so_far fills kept loaded is reported one = record {
     arrivals = arrival ∷ so_far.arrivals;
     counts = let n = so_far.counts in omega arith;
@@ -300,11 +302,11 @@ module _ (told : Event → Type 0) (intake : Intake) (plan : PlanView) (turn : T
 
   -- no datagram is there, or the call of the wire failed
   pub takes_no_more : (here : Option Parcel) (load : Option Weight) (count after : ℕ) (new : Noted) (seen now : List Parcel)
-      → TakesSoFar told intake plan turn was here load count counted after old new came seen
+      → TakesSoFar observed intake plan turn was here load count counted after old new came seen
       → Fills here None seen now
       → (IsSome here → None ≡ here)
       → count ≤ 64
-      → TakesAndReports told intake plan turn was None counted after old new came now
+      → TakesAndReports observed intake plan turn was None counted after old new came now
   takes_no_more here load count after new seen now so_far fills kept few = record {
     takes = record {
       arrivals = so_far.arrivals;
@@ -324,11 +326,11 @@ module _ (told : Event → Type 0) (intake : Intake) (plan : PlanView) (turn : T
   -- one doesn't fit any more
   pub takes_what_fits : (here : Option Parcel) (load : Option Weight) (arrival : Parcel) (count after : ℕ) (new : Noted)
       (seen now : List Parcel)
-      → TakesSoFar told intake plan turn was here load count counted after old new came seen
+      → TakesSoFar observed intake plan turn was here load count counted after old new came seen
       → Fills here (Some arrival) seen now
       → IsLoaded intake load arrival.octets None
       → count ≤ 64
-      → TakesAndReports told intake plan turn was (Some arrival) counted after old new came now
+      → TakesAndReports observed intake plan turn was (Some arrival) counted after old new came now
   takes_what_fits here load arrival count after new seen now so_far fills loaded few = record {
     takes = record {
       arrivals = so_far.arrivals;
@@ -347,21 +349,22 @@ module _ (told : Event → Type 0) (intake : Intake) (plan : PlanView) (turn : T
 
   -- 64 were taken
   pub takes_64 : (here : Option Parcel) (load : Option Weight) (after : ℕ) (new : Noted) (now : List Parcel)
-      → TakesSoFar told intake plan turn was here load 64 counted after old new came now
-      → TakesAndReports told intake plan turn was here counted after old new came now
+      → TakesSoFar observed intake plan turn was here load 64 counted after old new came now
+      → TakesAndReports observed intake plan turn was here counted after old new came now
   takes_64 here load after new now so_far =
       elim so_far.first [
         | inl empty ↦ absurd (let n = so_far.counts in let none = ap length empty.0 in omega arith)
-        | inr begun ↦ subst (λ left. TakesAndReports told intake plan turn was left counted after old new came now) (sym begun.1) (record {
-          takes = record {
-            arrivals = so_far.arrivals;
-            received = so_far.received;
-            first = begun.0;
-            within = within_load intake so_far.arrivals load so_far.loaded (let n = so_far.counts in omega arith);
-            leaves = leaves_none intake so_far.arrivals;
-            taken = so_far.taken;
-            what_came = subst (λ left. TakesWhatCame was left so_far.arrivals came now) begun.1 so_far.what_came;
-          };
-          reports = so_far.reports;
-        })
+        | inr begun ↦ subst (λ left. TakesAndReports observed intake plan turn was left counted after old new came now) (sym
+            begun.1) (record {
+              takes = record {
+                arrivals = so_far.arrivals;
+                received = so_far.received;
+                first = begun.0;
+                within = within_load intake so_far.arrivals load so_far.loaded (let n = so_far.counts in omega arith);
+                leaves = leaves_none intake so_far.arrivals;
+                taken = so_far.taken;
+                what_came = subst (λ left. TakesWhatCame was left so_far.arrivals came now) begun.1 so_far.what_came;
+              };
+              reports = so_far.reports;
+            })
       ]

@@ -31,9 +31,9 @@ none_rejected : (pass : Noted) → rejected_since pass pass ≡ None
 none_rejected pass = ap (λ (steps : List Made). last_of rejection_by steps None) (none_since pass)
 
 -- its reports: nothing was noted of it
-pub reports_away : (told : Event → Type 0) (peer : ℕ) (stage : ServiceStage) (now : ℕ) (octets : List ℕ) (pass : Noted)
-    → told (events.Received peer now true) → told (events.TurnedAway peer) → ReportsOf told peer stage now octets pass pass
-reports_away told peer stage now octets pass received away = record {
+pub reports_away : (observed : Event → Type 0) (peer : ℕ) (stage : ServiceStage) (now : ℕ) (octets : List ℕ) (pass : Noted)
+    → observed (events.Received peer now true) → observed (events.TurnedAway peer) → ReportsOf observed peer stage now octets pass pass
+reports_away observed peer stage now octets pass received away = record {
   is_alive = true;
   sign = (λ alive. inl (none_refused pass), λ sign. refl);
   received = received;
@@ -59,29 +59,29 @@ alike None since is = (λ none. sym is, λ none. refl)
 alike (Some refusal) since is = (λ none. absurd cc, λ none. absurd (not_some refusal (sym none ∙ sym is)))
 
 -- an answer is reported that is the one since then
-answer_told : {A : Type 0} (told : A → Type 0) (answer since : Option A) → answer ≡ since → IfSome answer told → (one : A)
-    → since ≡ Some one → told one
-answer_told told None since is each one gave = absurd (not_some one (is ∙ gave))
-answer_told told (Some answered) since is each one gave = subst told (same_some answered one (is ∙ gave)) each
+answer_told : {A : Type 0} (observed : A → Type 0) (answer since : Option A) → answer ≡ since → IfSome answer observed → (one : A)
+    → since ≡ Some one → observed one
+answer_told observed None since is each one gave = absurd (not_some one (is ∙ gave))
+answer_told observed (Some answered) since is each one gave = subst observed (same_some answered one (is ∙ gave)) each
 
 -- its reports, by its answer
-pub reports_answered : (told : Event → Type 0) (peer : ℕ) (stage : ServiceStage) (now : ℕ) (octets : List ℕ) (old new : Noted)
+pub reports_answered : (observed : Event → Type 0) (peer : ℕ) (stage : ServiceStage) (now : ℕ) (octets : List ℕ) (old new : Noted)
     (is_alive is_refused : Bool) (refusal : Option Refusal) (rejection : Option Rejection)
     → (IsTurnedAway stage octets → ⊥) → is_refused ≡ is_some refusal
     → (IsTrue is_alive ↔ ((is_refused ≡ false) ⊎ SpellsIax octets))
     → refusal ≡ refused_since old new → rejection ≡ rejected_since old new
-    → told (events.Received peer now is_alive)
-    → IfSome refusal (λ refusal. told (events.Refused peer refusal))
-    → IfSome rejection (λ rejection. told (events.Rejected peer rejection))
-    → ReportsOf told peer stage now octets old new
-reports_answered told peer stage now octets old new is_alive is_refused refusal rejection kept is alive refused rejected received
+    → observed (events.Received peer now is_alive)
+    → IfSome refusal (λ refusal. observed (events.Refused peer refusal))
+    → IfSome rejection (λ rejection. observed (events.Rejected peer rejection))
+    → ReportsOf observed peer stage now octets old new
+reports_answered observed peer stage now octets old new is_alive is_refused refusal rejection kept is alive refused rejected received
     refusals rejections = record {
       is_alive = is_alive;
       sign = (λ so. by_notes (alive.0 so), λ sign. alive.1 (by_answer sign));
       received = received;
       away = λ turned. absurd (kept turned);
-      refused = answer_told (λ (r : Refusal). told (events.Refused peer r)) refusal (refused_since old new) refused refusals;
-      rejected = answer_told (λ (r : Rejection). told (events.Rejected peer r)) rejection (rejected_since old new) rejected
+      refused = answer_told (λ (r : Refusal). observed (events.Refused peer r)) refusal (refused_since old new) refused refusals;
+      rejected = answer_told (λ (r : Rejection). observed (events.Rejected peer r)) rejection (rejected_since old new) rejected
           rejections;
     }
   where

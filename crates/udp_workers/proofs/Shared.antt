@@ -39,7 +39,8 @@ module _ (J P O S : RattleType) (n : ledger_set.Ghosts J.Denot O.Denot S.Denot) 
 
   -- the closure of a seat's thread, by the name of its type: it has the seat, the handle of the system and the service
   pub lent_send : (name : Sym) (a b c d : NamedLft) (V G W M C B R : RattleType) (v : watch.Ghosts V.Denot)
-      (w : wire.Ghosts W.Denot) (m : clock.Ghosts M.Denot) (h : challenges.Ghosts C.Denot) → IsSync V → IsSync G → IsSend W → IsSend M → IsSend C → IsSend B → IsSync R
+      (w : wire.Ghosts W.Denot) (m : clock.Ghosts M.Denot) (h : challenges.Ghosts C.Denot) → IsSync V → IsSync G → IsSend W →
+      IsSend M → IsSend C → IsSend B → IsSync R
       → IsSend (TupleAt name (ShrRef a.mir a.lft (seat.the_row W M C B J P O S w m h n p o s) ∷ ShrRef b.mir b.lft R
       ∷ ShrRef c.mir c.lft (watched.the_row d V G J P O S v n p o s) ∷ []))
   lent_send name a b c d V G W M C B R v w m h of_v of_g of_w of_m of_c of_b of_r =

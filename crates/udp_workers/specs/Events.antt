@@ -28,9 +28,9 @@ counted_all [] = nothing
 counted_all (event ∷ before) = counted (counted_all before) event
 
 -- a report counts exactly some events, and each of them was reported
-pub record Tells (told : Event → Type 0) (report : TurnReport) : Type 0 where
+pub record Tells (observed : Event → Type 0) (report : TurnReport) : Type 0 where
   pub events : List Event
-  pub each : All told events
+  pub each : All observed events
   pub counts : counted_all events ≡ report
 
 -- this number of further events can be counted

@@ -19,6 +19,10 @@ use Rattle.udp_workers.specs.declared.intake.Intake.TheVariants.{Whole, Bounded}
 use Rattle.udp_workers.specs.declared.intake.Weight.{Weight}
 use Rattle.exchange_core.specs.declared.watch.ServiceStage.{ServiceStage}
 
+-- what a datagram may bring, by kind
+abbrev pub DatagramWeight : Type 0
+DatagramWeight = Weight
+
 -- the place for a datagram that isn't handled yet, and how many were put there, modulo 2 ^ 64
 pub record InboxView : Type 0 where
   pub datagram : Option Parcel

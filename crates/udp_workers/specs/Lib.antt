@@ -1,9 +1,6 @@
-pub mod Carried
-pub mod CarriedAcross
 pub mod Draining
 pub mod Emptied
 pub mod Events
-pub mod Followed
 pub mod FullFrames
 pub mod Handed
 pub mod Intake

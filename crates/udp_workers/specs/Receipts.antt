@@ -24,17 +24,17 @@ IsSignOfLife octets old new = (refused_since old new ≡ None) ⊎ SpellsIax oct
 
 -- What is reported of a datagram of a peer, at a moment: its receipt, with whether it is a sign of life. Then that it is turned
 -- away, or the refusal or the rejection that its steps gave. All of that is reported of this peer.
-pub record ReportsOf (told : Event → Type 0) (peer : ℕ) (stage : ServiceStage) (now : ℕ) (octets : List ℕ) (old new : Noted)
+pub record ReportsOf (observed : Event → Type 0) (peer : ℕ) (stage : ServiceStage) (now : ℕ) (octets : List ℕ) (old new : Noted)
     : Type 0 where
   pub is_alive : Bool
   pub sign : IsTrue is_alive ↔ IsSignOfLife octets old new
-  pub received : told (events.Received peer now is_alive)
-  pub away : IsTurnedAway stage octets → told (events.TurnedAway peer)
-  pub refused : (refusal : Refusal) → refused_since old new ≡ Some refusal → told (events.Refused peer refusal)
-  pub rejected : (rejection : Rejection) → rejected_since old new ≡ Some rejection → told (events.Rejected peer rejection)
+  pub received : observed (events.Received peer now is_alive)
+  pub away : IsTurnedAway stage octets → observed (events.TurnedAway peer)
+  pub refused : (refusal : Refusal) → refused_since old new ≡ Some refusal → observed (events.Refused peer refusal)
+  pub rejected : (rejection : Rejection) → rejected_since old new ≡ Some rejection → observed (events.Rejected peer rejection)
 
 -- of a datagram from an endpoint: that a stranger sent it, or what is reported of the peer with this endpoint
 abbrev pub Reports : (Event → Type 0) → PlanView → ServiceStage → ℕ → Parcel → Noted → Noted → Type 0
-Reports told plan stage now arrival old new =
-    (All (λ peer. peer.endpoint ≢ arrival.endpoint) plan.peers × told (events.Stranger arrival.endpoint))
-    ⊎ ((peer : ℕ) × (endpoint_at plan peer ≡ Some arrival.endpoint) × ReportsOf told peer stage now arrival.octets old new)
+Reports observed plan stage now arrival old new =
+    (All (λ peer. peer.endpoint ≢ arrival.endpoint) plan.peers × observed (events.Stranger arrival.endpoint))
+    ⊎ ((peer : ℕ) × (endpoint_at plan peer ≡ Some arrival.endpoint) × ReportsOf observed peer stage now arrival.octets old new)

@@ -4,7 +4,6 @@
 mod draining;
 mod inbox;
 mod intake;
-pub mod laws;
 mod receiving;
 mod report;
 mod run_context;

@@ -31,7 +31,7 @@ const DATAGRAMS: u64 = 64;
 
 // Handles a received datagram from this endpoint, which is this peer's. A stranger's is refused, and so is a NEW while the
 // service drains. Any other is given to the exchange.
-fn hear<V: Watch, O: TurnObserver, G: Gate, J: LedgerSet, R: Wait>(
+fn take_arrival<V: Watch, O: TurnObserver, G: Gate, J: LedgerSet, R: Wait>(
     turn: &Turn<'_, G, J, R>,
     pass: &mut Pass<J>,
     tally: &mut Tally<'_, V, O>,
@@ -52,7 +52,7 @@ fn hear<V: Watch, O: TurnObserver, G: Gate, J: LedgerSet, R: Wait>(
     ensures faults { tally.new.report.faults ≡ tally.old.report.faults }
     ensures watch { tally.new.watch ≡ tally.old.watch }
     // What is reported of it, of the peer with the endpoint from which it came.
-    ensures told { Reports (V.told tally.old.watch.now) turn.now.exchange.now turn.now.stage turn.now.time
+    ensures observed { Reports (V.observed tally.old.watch.now) turn.now.exchange.now turn.now.stage turn.now.time
         (record { endpoint = from; octets = octets.now }) pass.old pass.new }
     // Unless it is refused, it makes a step.
     ensures steps { pass.old.credit.steps + 1 + tally.old.report.refused ≤ pass.new.credit.steps + tally.new.report.refused }
@@ -70,29 +70,29 @@ fn hear<V: Watch, O: TurnObserver, G: Gate, J: LedgerSet, R: Wait>(
         }) pass.old pass.new }
 {
     let Some(peer) = peer else {
-        tally.tell(Event::Stranger { from });
+        tally.observe(Event::Stranger { from });
         return;
     };
     if is_turned_away(turn.stage, octets) {
         // A NEW is a full frame of type IAX.
-        tally.tell(Event::Received {
+        tally.observe(Event::Received {
             peer,
             now: turn.time,
             is_alive: true,
         });
-        tally.tell(Event::TurnedAway { peer });
+        tally.observe(Event::TurnedAway { peer });
         return;
     }
     let answer = turn
         .exchange
         .datagram_of(turn.rt, pass, peer, octets, turn.time, turn.challenge);
-    tally.tell(Event::Received {
+    tally.observe(Event::Received {
         peer,
         now: turn.time,
         is_alive: is_sign_of_life(answer.refused.is_some(), octets),
     });
-    tally.tell_outcome(peer, &answer);
-    tally.tell_retired(&answer.retired);
+    tally.observe_outcome(peer, &answer);
+    tally.observe_retired(&answer.retired);
 }
 
 // Handles the datagram that was left to this turn. Then receives and handles others until none is available, a call of the
@@ -122,7 +122,7 @@ pub(crate) fn receive_all<W: Wire, V: Watch, O: TurnObserver, G: Gate, J: Ledger
         tally.new.report.refused + tally.old.report.received }
     ensures later { IsLater pass.old pass.new }
     ensures handed { GivesAll (V.given tally.old.watch.now) pass.old pass.new }
-    ensures takes { TakesAndReports (V.told tally.old.watch.now) turn.now.intake turn.now.exchange.now
+    ensures takes { TakesAndReports (V.observed tally.old.watch.now) turn.now.intake turn.now.exchange.now
         (record { stage = turn.now.stage; now = turn.now.time; challenge = turn.now.challenge.now }) inbox.old.datagram
         inbox.new.datagram
         tally.old.report.received tally.new.report.received pass.old pass.new (W.came wire.old) (W.came wire.new) }
@@ -133,7 +133,7 @@ pub(crate) fn receive_all<W: Wire, V: Watch, O: TurnObserver, G: Gate, J: Ledger
     let mut taken = None;
     for _ in 0..DATAGRAMS {
         if inbox.fill(wire).is_err() {
-            tally.tell(Event::Fault);
+            tally.observe(Event::Fault);
             return;
         }
         let Some((from, octets)) = inbox.datagram() else {
@@ -144,10 +144,10 @@ pub(crate) fn receive_all<W: Wire, V: Watch, O: TurnObserver, G: Gate, J: Ledger
         };
         taken = Some(load);
         let peer = turn.exchange.plan().peer_at(from);
-        // A copy, as in `Tally::tell`.
+        // A copy, as in `Tally::observe`.
         let noted = peer;
         tally.take(noted, from, octets);
-        hear(turn, pass, tally, peer, from, octets);
+        take_arrival(turn, pass, tally, peer, from, octets);
         inbox.clear();
     }
 }

@@ -1,5 +1,5 @@
 //! Runs turns one after another.
-ghost use Rattle.std.specs.Prelude.{⊤, ◌≡◌, ◌+◌, ◌*◌, ◌^◌, ◌≤◌, ◌||◌, if◌then◌else◌, length, min, option_and_then, slice_get};
+ghost use Rattle.std.specs.Prelude.{⊤, ◌≡◌, ◌+◌, ◌*◌, ◌^◌, ◌≤◌, ◌||◌, if◌then◌else◌, min, option_and_then, slice_get};
 ghost use Rattle.udp_wires.specs.Counts.{RisesBy};
 ghost use Rattle.udp_workers.specs.Events.{CountsSends, MakesTurns, Tells, nothing};
 ghost use Rattle.udp_workers.specs.Handed.{GivesAll};
@@ -199,7 +199,7 @@ impl Worker {
         // The turns that it made; each received at most 64 datagrams, and gave the wire at most 256 for each peer.
         ensures turns { MakesTurns
             (min turns (2 ^ 48)) (V.answered watch.now ServiceStage.Ended) self.old.turns self.new.turns result }
-        ensures told { ∥ Tells (V.told watch.now) result ∥₁ }
+        ensures observed { ∥ Tells (V.observed watch.now) result ∥₁ }
         // Each leg that was taken out under the pass was given to the watch, with what its peer's state gave up.
         ensures handed { GivesAll (V.given watch.now) pass.old pass.new }
         ensures refused { result.refused ≤ result.received }
@@ -211,7 +211,7 @@ impl Worker {
         // Each datagram is reported of the peer with its sender's endpoint, or as a stranger's. Its receipt is reported, and
         // that it was turned away, or its refusal or rejection. Each turn has the clock's next moment and the source's next
         // challenge, and no other was asked for.
-        ensures intake { RunsTurns (V.told watch.now) M.gave C.gave context.entry.moments.now context.exit.0.now
+        ensures intake { RunsTurns (V.observed watch.now) M.gave C.gave context.entry.moments.now context.exit.0.now
             context.entry.challenges.now context.exit.1.0.now intake exchange.now self.old.peers result.received pass.old pass.new
             (record { came = W.came wire.old; went = W.went wire.old })
             (record { came = W.came wire.new; went = W.went wire.new }) }

@@ -122,9 +122,9 @@ impl<
             self.new.report }
         ensures counts { CountsSends nothing self.new.report (W.went self.old.wire) (W.went self.new.wire) (W.sent self.old.wire)
             (W.sent self.new.wire) }
-        ensures told { ∥ Tells (V.told watch.now) self.new.report ∥₁ }
+        ensures observed { ∥ Tells (V.observed watch.now) self.new.report ∥₁ }
         ensures handed { GivesAll (V.given watch.now) self.old.pass self.new.pass }
-        ensures intake { RunsTurns (V.told watch.now) M.gave C.gave self.old.moments self.new.moments self.old.challenges
+        ensures intake { RunsTurns (V.observed watch.now) M.gave C.gave self.old.moments self.new.moments self.old.challenges
             self.new.challenges intake exchange.now self.old.worker.peers self.new.report.received self.old.pass self.new.pass
             (record { came = W.came self.old.wire; went = W.went self.old.wire })
             (record { came = W.came self.new.wire; went = W.went self.new.wire }) }

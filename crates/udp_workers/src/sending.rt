@@ -48,14 +48,14 @@ fn send_frame<W: Wire, V: Watch, O: TurnObserver>(
     ensures received { tally.new.report.received ≡ tally.old.report.received }
     ensures refused { tally.new.report.refused ≡ tally.old.report.refused }
     ensures watch { tally.new.watch ≡ tally.old.watch }
-    ensures told { V.told tally.old.watch.now (events.Sent peer) ⊎ V.told tally.old.watch.now (events.Lost peer) }
+    ensures observed { V.observed tally.old.watch.now (events.Sent peer) ⊎ V.observed tally.old.watch.now (events.Lost peer) }
 {
     match wire.send(to, octets) {
-        Ok(true) => tally.tell(Event::Sent { peer }),
-        Ok(false) => tally.tell(Event::Lost { peer }),
+        Ok(true) => tally.observe(Event::Sent { peer }),
+        Ok(false) => tally.observe(Event::Lost { peer }),
         Err(_) => {
-            tally.tell(Event::Lost { peer });
-            tally.tell(Event::Fault);
+            tally.observe(Event::Lost { peer });
+            tally.observe(Event::Fault);
         }
     }
 }

@@ -19,7 +19,7 @@ pub(crate) struct Tally<'w, V: Watch, O: TurnObserver> {
     // The worker that makes the turns.
     pub(crate) worker: WorkerId,
     pub(crate) report: TurnReport,
-    ghost told: { ∥ Tells (V.told watch.now) report ∥₁ },
+    ghost observed: { ∥ Tells (V.observed watch.now) report ∥₁ },
 }
 
 impl<'w, V: Watch, O: TurnObserver> Tally<'w, V, O> {
@@ -71,47 +71,47 @@ impl<'w, V: Watch, O: TurnObserver> Tally<'w, V, O> {
     }
 
     // Reports an event to the watch and then to the observer, and counts it.
-    pub(crate) fn tell(&mut self, event: Event)
+    pub(crate) fn observe(&mut self, event: Event)
         requires room { HasRoom 1 self.old.report }
-        ensures told { V.told self.old.watch.now event }
+        ensures observed { V.observed self.old.watch.now event }
         ensures counted { self.new.report ≡ counted self.old.report event }
         ensures watch { self.new.watch ≡ self.old.watch }
     {
         // Copies: the borrow checker doesn't cover an enum that holds a peer and is passed by value twice.
-        let (told, seen) = (event, event);
-        self.watch.tell(told);
+        let (observed, seen) = (event, event);
+        self.watch.observe(observed);
         self.observer.event(seen);
         self.report = self.report.counted(event);
     }
 
     // Reports the outcome of a peer's datagram to the watch: its refusal, or the rejection in its answer.
-    pub(crate) fn tell_outcome(&mut self, peer: PeerId, answer: &Answer)
+    pub(crate) fn observe_outcome(&mut self, peer: PeerId, answer: &Answer)
         requires room { HasRoom 1 self.old.report }
         ensures rejected { IfSome answer.now.rejected (λ rejection.
-            V.told self.old.watch.now (events.Rejected peer rejection)) }
+            V.observed self.old.watch.now (events.Rejected peer rejection)) }
         ensures refused { IfSome answer.now.refused (λ refusal.
-            V.told self.old.watch.now (events.Refused peer refusal)) }
+            V.observed self.old.watch.now (events.Refused peer refusal)) }
         ensures report { MatchOption answer.now.refused (self.new.report ≡ self.old.report)
             (λ refusal. self.new.report ≡ counted self.old.report (events.Refused peer refusal)) }
         ensures watch { self.new.watch ≡ self.old.watch }
     {
         if let Some(rejection) = answer.rejected {
-            self.tell(Event::Rejected { peer, rejection });
+            self.observe(Event::Rejected { peer, rejection });
         }
         if let Some(refusal) = answer.refused {
-            self.tell(Event::Refused { peer, refusal });
+            self.observe(Event::Refused { peer, refusal });
         }
     }
 
     // Reports each leg that was taken out to the watch, and gives it the leg.
-    pub(crate) fn tell_retired(&mut self, legs: &[Retired])
+    pub(crate) fn observe_retired(&mut self, legs: &[Retired])
         requires room { HasRoom 1 self.old.report }
         ensures given { All (λ leg. V.given self.old.watch.now (departure_of leg)) legs.now }
         ensures only { OnlyRetires self.old.report self.new.report }
         ensures watch { self.new.watch ≡ self.old.watch }
     {
         for leg in legs {
-            self.tell(Event::Retired {
+            self.observe(Event::Retired {
                 peer: leg.name.owner(),
             });
             self.watch.retire(self.worker, leg);

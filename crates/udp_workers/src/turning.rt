@@ -152,8 +152,9 @@ impl Worker {
         ensures steps { pass.old.credit.steps + tally.new.report.received + tally.old.report.refused ≤ pass.new.credit.steps +
             tally.new.report.refused + tally.old.report.received }
         ensures handed { GivesAll (V.given tally.old.watch.now) pass.old pass.new }
-        ensures turn { MakesAndReports (V.told tally.old.watch.now) turn.now.intake turn.now.exchange.now self.old.peers
-            turn.now.all (record { stage = turn.now.stage; now = turn.now.time; challenge = turn.now.challenge.now }) inbox.old.datagram
+        ensures turn { MakesAndReports (V.observed tally.old.watch.now) turn.now.intake turn.now.exchange.now self.old.peers
+            turn.now.all (record { stage = turn.now.stage; now = turn.now.time; challenge = turn.now.challenge.now })
+            inbox.old.datagram
             inbox.new.datagram
             tally.old.report.received tally.new.report.received pass.old pass.new
             (record { came = W.came wire.old; went = W.went wire.old })
@@ -198,7 +199,7 @@ fn tick_peer<V: Watch, O: TurnObserver, G: Gate, J: LedgerSet, R: Wait>(
     ensures watch { tally.new.watch ≡ tally.old.watch }
 {
     let answer = turn.exchange.tick(turn.rt, pass, peer, turn.time);
-    tally.tell_retired(&answer.retired);
+    tally.observe_retired(&answer.retired);
 }
 
 // Returns whether a turn ticks a peer.

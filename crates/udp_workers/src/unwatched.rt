@@ -17,7 +17,7 @@ impl Watch for Unwatched {
         ServiceStage::Serving
     }
 
-    fn tell(&self, _event: Event) {}
+    fn observe(&self, _event: Event) {}
 
     fn retire(&self, _worker: WorkerId, _leg: &Retired) {}
 

@@ -3,7 +3,7 @@ use Rattle.std.proofs.Common.{◌≡◌, ℕ, List, Option, Result, Ok, Err, IfO
 use Rattle.std.proofs.KnownBytes.{Appends-trans}
 use Rattle.std.specs.Io.KnownBytes.{Appends}
 use Rattle.std.specs.Prelude.{Vec}
-use Rattle.exchange_report.specs.Accounts.{WereAccountsWritten, accounts_text}
+use Rattle.worker_setup.specs.Accounts.{WereAccountsWritten, accounts_text}
 use Rattle.udp_workers.specs.declared.report.TurnReport.{TurnReport}
 use Rattle.worker_setup.specs.Reports.{HasServed, reports_text}
 

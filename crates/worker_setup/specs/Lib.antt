@@ -1,3 +1,4 @@
+pub mod Accounts
 pub mod ServiceErrors
 pub mod Drawing
 pub mod Skipping

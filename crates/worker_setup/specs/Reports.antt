@@ -2,8 +2,8 @@
 use Rattle.std.specs.Prelude.{ℕ, ◌≡◌, ◌+◌, ◌≤◌, List, ◌++◌, Option, codes, decimal, length}
 use Rattle.std.specs.List.{enumerate_from, flat_map}
 use Rattle.std.specs.Io.KnownBytes.{Appends}
-use Rattle.exchange_report.specs.Accounts.{accounts_text}
-use Rattle.exchange_report.specs.declared.accounts.MediaAccounts.{MediaAccounts}
+use Rattle.worker_setup.specs.Accounts.{accounts_text}
+use Rattle.worker_setup.specs.declared.accounts.MediaAccounts.{MediaAccounts}
 use Rattle.udp_workers.specs.declared.report.TurnReport.{TurnReport}
 
 -- the line of the worker at a place: datagrams received, sent and lost, and failed calls of the wire

@@ -4,10 +4,10 @@ ghost use Rattle.std.specs.Io.KnownBytes.{Appends};
 ghost use Rattle.worker_setup.specs.Reports.{HasServed, reports_text};
 ghost use Rattle.worker_setup.specs.declared.service_error.ServiceError.TheVariants as errors;
 
+use crate::accounts::{closed_accounts, settle};
 use crate::seats::ServiceSeat;
 use crate::service_error::ServiceError;
 use exchange_core::{Exchange, NoGate, Pass};
-use exchange_report::{closed_accounts, settle};
 use peer_lock::LedgerSet;
 use std::alloc::Global;
 use std::io;
@@ -54,7 +54,7 @@ fn write_reports<W: Write>(reports: &[TurnReport], writer: &mut W) -> io::Result
 }
 
 // Writes the reports that there are. Their lines are `worker <place> <received> <sent> <lost> <faults>`.
-fn tell_reports<W: Write>(
+fn write_reports_if_ok<W: Write>(
     reports: Result<Vec<TurnReport>, ServiceError>,
     writer: &mut W,
 ) -> Result<(), ServiceError>
@@ -67,11 +67,11 @@ fn tell_reports<W: Write>(
 
 /// Writes `worker <place> <received> <sent> <lost> <faults>` for each worker, in order. Places begin at 0; the counts are
 /// datagrams, and failed calls of the wire. Then closes the accounts of the exchange with all its passes, and writes them as
-/// `exchange_report::settle` does.
+/// `settle` does.
 ///
 /// Returns the error of `reports` if there are none; then nothing is written. Returns `Writer` at the first line that can't
 /// be written. Returns `Memory` if a request for memory was refused or a pass is missing; then no accounts are written.
-pub fn tell_served<J: LedgerSet, W: Write>(
+pub fn write_served<J: LedgerSet, W: Write>(
     reports: Result<Vec<TurnReport>, ServiceError>,
     exchange: Exchange<NoGate, J>,
     passes: Vec<Pass<J>>,
@@ -81,7 +81,7 @@ pub fn tell_served<J: LedgerSet, W: Write>(
     ensures served { OnOk result (HasServed (length exchange.workers) (W.contents writer.old) (W.contents writer.new)) }
     ensures error { IfErr reports (λ error. (result ≡ Err error) × (writer.new ≡ writer.old)) }
 {
-    match tell_reports(reports, writer) {
+    match write_reports_if_ok(reports, writer) {
         Ok(()) => settle(exchange, passes, writer),
         // Closed and not dropped, because a drop would have to be proved here field by field.
         Err(error) => {

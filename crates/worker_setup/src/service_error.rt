@@ -1,10 +1,11 @@
 //! The reasons why a service ends early.
-ghost use Rattle.std.specs.Prelude.{◌≡◌, option_map};
+ghost use Rattle.std.specs.Prelude.{◌≡◌, IsOk, if◌then◌else◌, is_ok, option_map};
 ghost use Rattle.worker_setup.specs.ServiceErrors.{error_text, from_bind};
 ghost use Rattle.worker_setup.specs.declared.service_error.ServiceError.TheVariants as errors;
 
 use std::alloc::AllocError;
 use std::io;
+use std::io::Write;
 use udp_wires::BindError;
 use udp_workers::NoThread;
 
@@ -64,9 +65,9 @@ impl From<io::Error> for ServiceError {
     }
 }
 
-/// Returns the word printed after `refused`: the name of the variant. `Writer` has none, because then nothing can be
-/// printed.
-pub fn service_error_name(error: ServiceError) -> Option<&'static str>
+// Returns the word printed after `refused`: the name of the variant. `Writer` has none, because then nothing can be
+// printed.
+fn service_error_name(error: ServiceError) -> Option<&'static str>
     ensures { option_map (λ name. name.now) result ≡ error_text error }
 {
     match error {
@@ -79,4 +80,19 @@ pub fn service_error_name(error: ServiceError) -> Option<&'static str>
         ServiceError::Descriptors => Some("Descriptors"),
         ServiceError::Writer => None,
     }
+}
+
+/// Returns the status of a command that serves: 0, or 1 after an error, which is printed as `refused <name>` if it has a
+/// name.
+pub fn status_of<W: Write>(served: Result<(), ServiceError>, writer: &mut W) -> u8
+    ensures status { result ≡ (if is_ok served then 0 else 1) }
+    ensures same { IsOk served → writer.new ≡ writer.old }
+{
+    let Err(error) = served else {
+        return 0;
+    };
+    if let Some(name) = service_error_name(error) {
+        let _ = writeln!(writer, "refused {name}");
+    }
+    1
 }

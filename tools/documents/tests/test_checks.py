@@ -46,7 +46,9 @@ class Pages(Copy):
 
     def test_numbers_without_a_unit(self):
         self.assertEqual(self.faults(limits.check_numbers, "It comes from the number 32,767.\n"), [])
-        self.assertEqual(self.faults(limits.check_numbers, "It comes from the number 32.\n"), ["32, but the sources have [32767]"])
+        self.assertEqual(
+            self.faults(limits.check_numbers, "It comes from the number 32.\n"), ["32, but the sources have [32767]"]
+        )
 
     def test_modes(self):
         self.assertEqual(self.faults(modes.check, "The folder is made with mode 0700, its files with 0600.\n"), [])

@@ -12,7 +12,8 @@ SHUT = {
     "memory_refusals/specs/Refused.antt": "pub WasRefused : Type 0\nWasRefused = Unit {0}\n",
     "memory_requests/specs/Refused.antt": "-- The fact.\npub use Rattle.memory_refusals.specs.Refused.{WasRefused}\n",
     "memory_requests/proofs/requests/push/Answers.antt": "use Rattle.memory_refusals.specs.Refused.{asked_in_vain}\n",
-    "call_book/specs/Book.antt": "-- memory_refusals is named in a comment alone\nuse Rattle.memory_requests.specs.Refused.{WasRefused}\n",
+    "call_book/specs/Book.antt": "-- memory_refusals is named in a comment alone\n"
+    "use Rattle.memory_requests.specs.Refused.{WasRefused}\n",
 }
 
 

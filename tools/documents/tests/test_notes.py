@@ -43,7 +43,8 @@ class Notes(unittest.TestCase):
         self.assertEqual(unnoted_in(spoilt), ["NotedPeer::drains"])
 
     def test_arguments_on_lines_of_their_own(self):
-        spoilt = "impl NotedBook {\n    pub fn forget<J: LedgerSet>(\n        &mut self,\n        name: LegName,\n    ) {\n    }\n}\n"
+        head = "    pub fn forget<J: LedgerSet>(\n        &mut self,\n        name: LegName,\n    ) {\n"
+        spoilt = f"impl NotedBook {{\n{head}    }}\n}}\n"
         self.assertEqual(unnoted_in(spoilt), ["NotedBook::forget"])
 
     def test_other_types(self):

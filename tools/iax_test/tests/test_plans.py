@@ -12,7 +12,10 @@ class Plans(unittest.TestCase):
     """The text of a plan, as TOML reads it."""
 
     def test_whole(self):
-        text = plan_text({"format": 1, "passes": 9, "ping_ms": None}, [("127.0.0.1", 4569)], [WEST, {"name": "east"}], [("3", "east"), ("", "west", "east")])
+        text = plan_text(
+            {"format": 1, "passes": 9, "ping_ms": None}, [("127.0.0.1", 4569)], [WEST, {"name": "east"}],
+            [("3", "east"), ("", "west", "east")],
+        )
         usual = {"address": "127.0.0.1", "formats": ["ulaw"]}
         wanted = {
             "format": 1,

@@ -19,7 +19,8 @@ only=3 holes=2
 UNPROVED = """./proofs/reads/Answers.antt:3:9: error: `returns`: `search`: no proof of `0 ≡ 1`
   was found. It stopped 5 lemmas deep
 /tmp/copies/low/proofs/first/Proof.antt:1:1: error: `low` has no function `first`
-fn high::reads: not proved; it stands on `Rattle.high.proofs.reads.Answers.returns`, which antt refuses; it calls `low::first`, which is not proved
+fn high::reads: not proved; it stands on `Rattle.high.proofs.reads.Answers.returns`, which antt refuses; it calls `low::first`, \
+which is not proved
 fn high::writes: no proof: expected answers in ./proofs/writes/Answers.antt; `search` did not prove `returns`
 only=2 holes=2
 """

@@ -89,7 +89,7 @@ impl Watch for Draining {
         ServiceStage::Draining
     }
 
-    fn tell(&self, event: Event) {
+    fn observe(&self, event: Event) {
         if let Some(count) = self.count_of(event) {
             count.fetch_add(1, Ordering::SeqCst);
         }

@@ -51,7 +51,7 @@ impl Watch for Wakes {
         ServiceStage::Serving
     }
 
-    fn tell(&self, _event: Event) {}
+    fn observe(&self, _event: Event) {}
 
     fn retire(&self, _worker: WorkerId, _leg: &Retired) {}
 

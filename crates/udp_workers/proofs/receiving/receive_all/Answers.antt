@@ -14,7 +14,7 @@ use Rattle.udp_workers.proofs.receiving.receive_all.Goals as goal
 pub returns-then-is_err-clause-takes : goal.returns-then-is_err-clause-takes
 returns-then-is_err-clause-takes g c =
     let turn = c.args.turn.now in
-    let told = g.V.Watch.told c.args.tally.now.watch.now in
+    let observed = g.V.Watch.observed c.args.tally.now.watch.now in
     let l = c.loop in
     let came = g.W.Wire.came c.args.wire.now in
     let seen = g.W.Wire.came l.wire in
@@ -22,20 +22,22 @@ returns-then-is_err-clause-takes g c =
     let view : TurnView = record { stage = turn.stage; now = turn.time; challenge = turn.challenge.now } in
     let none = sym (at_error c.fill.result (c.fill.new.self.datagram ≡ None) c.fill.ensures.fault
     (sym c.is_err.ensures.value ∙ c.if-is_err.true)) in
-    let so_far = subst (λ (n : ℕ). TakesSoFar told turn.intake turn.exchange.now view c.args.inbox.now.datagram l.inbox.datagram
+    let so_far = subst (λ (n : ℕ). TakesSoFar observed turn.intake turn.exchange.now view c.args.inbox.now.datagram l.inbox.datagram
     l.taken l.counter c.args.tally.now.report.received n c.args.pass.now l.pass came seen)
-    (sym (ap (λ (report : TurnReport). report.received) c.tell.ensures.counted)) l.invariant.takes in
-    subst (λ left. TakesAndReports told turn.intake turn.exchange.now view c.args.inbox.now.datagram left c.args.tally.now.report.received
-    c.tell.new.self.report.received c.args.pass.now l.pass came now) none
-    (takes_no_more told turn.intake turn.exchange.now view c.args.inbox.now.datagram c.args.tally.now.report.received c.args.pass.now
-    came l.inbox.datagram l.taken l.counter c.tell.new.self.report.received l.pass seen now
+    (sym (ap (λ (report : TurnReport). report.received) c.observe.ensures.counted)) l.invariant.takes in
+    subst (λ left. TakesAndReports observed turn.intake turn.exchange.now view c.args.inbox.now.datagram left
+    c.args.tally.now.report.received
+    c.observe.new.self.report.received c.args.pass.now l.pass came now) none
+    (takes_no_more observed turn.intake turn.exchange.now view c.args.inbox.now.datagram c.args.tally.now.report.received
+    c.args.pass.now
+    came l.inbox.datagram l.taken l.counter c.observe.new.self.report.received l.pass seen now
     so_far (subst (λ here. Fills l.inbox.datagram here seen now) (sym none) c.fill.ensures.fills)
     (λ some. none ∙ ap (λ (inbox : InboxView). inbox.datagram) (c.fill.ensures.kept some)) (omega arith))
 
 pub returns-in_default-clause-takes : goal.returns-in_default-clause-takes
 returns-in_default-clause-takes g c =
     let turn = c.args.turn.now in
-    let told = g.V.Watch.told c.args.tally.now.watch.now in
+    let observed = g.V.Watch.observed c.args.tally.now.watch.now in
     let l = c.loop in
     let came = g.W.Wire.came c.args.wire.now in
     let seen = g.W.Wire.came l.wire in
@@ -43,9 +45,11 @@ returns-in_default-clause-takes g c =
     let view : TurnView = record { stage = turn.stage; now = turn.time; challenge = turn.challenge.now } in
     let none : None ≡ c.fill.new.self.datagram = not_there c.fill.new.self.datagram c.datagram.result c.datagram.ensures
     c.in_default.is in
-    subst (λ left. TakesAndReports told turn.intake turn.exchange.now view c.args.inbox.now.datagram left c.args.tally.now.report.received
+    subst (λ left. TakesAndReports observed turn.intake turn.exchange.now view c.args.inbox.now.datagram left
+    c.args.tally.now.report.received
     l.tally.report.received c.args.pass.now l.pass came now) none
-    (takes_no_more told turn.intake turn.exchange.now view c.args.inbox.now.datagram c.args.tally.now.report.received c.args.pass.now
+    (takes_no_more observed turn.intake turn.exchange.now view c.args.inbox.now.datagram c.args.tally.now.report.received
+    c.args.pass.now
     came l.inbox.datagram l.taken l.counter l.tally.report.received l.pass seen now
     l.invariant.takes (subst (λ here. Fills l.inbox.datagram here seen now) (sym none) c.fill.ensures.fills)
     (λ some. none ∙ ap (λ (inbox : InboxView). inbox.datagram) (c.fill.ensures.kept some)) (omega arith))
@@ -53,7 +57,7 @@ returns-in_default-clause-takes g c =
 pub returns-in_default-loaded-clause-takes : goal.returns-in_default-loaded-clause-takes
 returns-in_default-loaded-clause-takes g c =
     let turn = c.args.turn.now in
-    let told = g.V.Watch.told c.args.tally.now.watch.now in
+    let observed = g.V.Watch.observed c.args.tally.now.watch.now in
     let l = c.loop in
     let came = g.W.Wire.came c.args.wire.now in
     let seen = g.W.Wire.came l.wire in
@@ -62,30 +66,33 @@ returns-in_default-loaded-clause-takes g c =
     let arrival : Parcel = record { endpoint = c.in-Some.from; octets = c.in-Some.octets.now } in
     let here : Some arrival ≡ c.fill.new.self.datagram = c.in-Some.ensures in
     let full = subst (IsLoaded turn.intake l.taken arrival.octets) c.in_default-loaded.is c.loaded.ensures in
-    subst (λ left. TakesAndReports told turn.intake turn.exchange.now view c.args.inbox.now.datagram left c.args.tally.now.report.received
+    subst (λ left. TakesAndReports observed turn.intake turn.exchange.now view c.args.inbox.now.datagram left
+    c.args.tally.now.report.received
     l.tally.report.received c.args.pass.now l.pass came now) here
-    (takes_what_fits told turn.intake turn.exchange.now view c.args.inbox.now.datagram c.args.tally.now.report.received c.args.pass.now
+    (takes_what_fits observed turn.intake turn.exchange.now view c.args.inbox.now.datagram c.args.tally.now.report.received
+    c.args.pass.now
     came l.inbox.datagram l.taken arrival l.counter l.tally.report.received l.pass seen now
     l.invariant.takes (subst (λ left. Fills l.inbox.datagram left seen now) (sym here) c.fill.ensures.fills) full (omega arith))
 
 pub returns-clause-takes : goal.returns-clause-takes
 returns-clause-takes g c =
     let turn = c.args.turn.now in
-    let told = g.V.Watch.told c.args.tally.now.watch.now in
+    let observed = g.V.Watch.observed c.args.tally.now.watch.now in
     let l = c.loop in
     let came = g.W.Wire.came c.args.wire.now in
     let seen = g.W.Wire.came l.wire in
     let view : TurnView = record { stage = turn.stage; now = turn.time; challenge = turn.challenge.now } in
     let all : l.counter ≡ 64 = omega arith in
-    takes_64 told turn.intake turn.exchange.now view c.args.inbox.now.datagram c.args.tally.now.report.received c.args.pass.now came
+    takes_64 observed turn.intake turn.exchange.now view c.args.inbox.now.datagram c.args.tally.now.report.received c.args.pass.now
+    came
     l.inbox.datagram l.taken l.tally.report.received l.pass seen
-    (subst (λ (n : ℕ). TakesSoFar told turn.intake turn.exchange.now view c.args.inbox.now.datagram l.inbox.datagram l.taken n
+    (subst (λ (n : ℕ). TakesSoFar observed turn.intake turn.exchange.now view c.args.inbox.now.datagram l.inbox.datagram l.taken n
     c.args.tally.now.report.received l.tally.report.received c.args.pass.now l.pass came seen) all l.invariant.takes)
 
 pub loop-preserved : goal.loop-preserved
 loop-preserved g c =
     let turn = c.args.turn.now in
-    let told = g.V.Watch.told c.args.tally.now.watch.now in
+    let observed = g.V.Watch.observed c.args.tally.now.watch.now in
     let l = c.loop in
     let came = g.W.Wire.came c.args.wire.now in
     let seen = g.W.Wire.came l.wire in
@@ -101,10 +108,10 @@ loop-preserved g c =
       received = omega (arith, received);
       more = omega (arith, received);
       refused = omega (arith, received, refused);
-      no_fault = c.hear.ensures.faults ∙ ap (λ (report : TurnReport). report.faults) same ∙ l.invariant.no_fault;
-      sent = c.hear.ensures.sent ∙ ap (λ (report : TurnReport). report.sent) same ∙ l.invariant.sent;
-      lost = c.hear.ensures.lost ∙ ap (λ (report : TurnReport). report.lost) same ∙ l.invariant.lost;
-      watch = c.hear.ensures.watch ∙ c.take.ensures.watch ∙ l.invariant.watch;
+      no_fault = c.take_arrival.ensures.faults ∙ ap (λ (report : TurnReport). report.faults) same ∙ l.invariant.no_fault;
+      sent = c.take_arrival.ensures.sent ∙ ap (λ (report : TurnReport). report.sent) same ∙ l.invariant.sent;
+      lost = c.take_arrival.ensures.lost ∙ ap (λ (report : TurnReport). report.lost) same ∙ l.invariant.lost;
+      watch = c.take_arrival.ensures.watch ∙ c.take.ensures.watch ∙ l.invariant.watch;
       went = c.fill.ensures.went ∙ l.invariant.went;
       wire_sent = c.fill.ensures.sent ∙ l.invariant.wire_sent;
       given = c.fill.ensures.given ∙ l.invariant.given;
@@ -112,33 +119,36 @@ loop-preserved g c =
       failures = search rules;
       peers = c.fill.ensures.peers ∙ l.invariant.peers;
       steps = omega (arith, received, refused);
-      later = later_on c.args.pass.now l.pass c.hear.new.pass l.invariant.later c.hear.ensures.later;
+      later = later_on c.args.pass.now l.pass c.take_arrival.new.pass l.invariant.later c.take_arrival.ensures.later;
       handed =
-          gives_on (g.V.Watch.given c.args.tally.now.watch.now) c.args.pass.now l.pass c.hear.new.pass l.invariant.handed
-          (subst (λ (watch : Bor g.row.V.Denot). GivesAll (g.V.Watch.given watch.now) l.pass c.hear.new.pass)
-          (c.take.ensures.watch ∙ l.invariant.watch) c.hear.ensures.handed);
+          gives_on (g.V.Watch.given c.args.tally.now.watch.now) c.args.pass.now l.pass c.take_arrival.new.pass l.invariant.handed
+          (subst (λ (watch : Bor g.row.V.Denot). GivesAll (g.V.Watch.given watch.now) l.pass c.take_arrival.new.pass)
+          (c.take.ensures.watch ∙ l.invariant.watch) c.take_arrival.ensures.handed);
       none_lost = search rules;
       takes =
-          subst (λ left. TakesSoFar told turn.intake turn.exchange.now view c.args.inbox.now.datagram left (Some c.in-Some-loaded.load)
-          (l.counter + 1) c.args.tally.now.report.received c.hear.new.tally.report.received
-          c.args.pass.now c.hear.new.pass came now)
+          subst (λ left. TakesSoFar observed turn.intake turn.exchange.now view c.args.inbox.now.datagram left (Some
+          c.in-Some-loaded.load)
+          (l.counter + 1) c.args.tally.now.report.received c.take_arrival.new.tally.report.received
+          c.args.pass.now c.take_arrival.new.pass came now)
           (sym (ap (λ (inbox : InboxView). inbox.datagram) c.clear.ensures))
-          (takes_one told turn.intake turn.exchange.now view c.args.inbox.now.datagram c.args.tally.now.report.received c.args.pass.now
+          (takes_one observed turn.intake turn.exchange.now view c.args.inbox.now.datagram c.args.tally.now.report.received
+          c.args.pass.now
           came l.inbox.datagram l.taken c.in-Some-loaded.load arrival l.counter l.tally.report.received
-          c.hear.new.tally.report.received
-          l.pass c.hear.new.pass seen now l.invariant.takes (subst (λ left. Fills l.inbox.datagram left seen now) (sym here)
+          c.take_arrival.new.tally.report.received
+          l.pass c.take_arrival.new.pass seen now l.invariant.takes (subst (λ left. Fills l.inbox.datagram left seen now) (sym
+          here)
           c.fill.ensures.fills)
           (λ some. here ∙ ap (λ (inbox : InboxView). inbox.datagram) (c.fill.ensures.kept some)) more
-          (record { away = λ is. (c.hear.ensures.away is).0; heard = c.hear.ensures.heard })
-          (subst (λ (watch : Bor g.row.V.Denot). Reports (g.V.Watch.told watch.now) turn.exchange.now turn.stage turn.time arrival
-          l.pass c.hear.new.pass) (c.take.ensures.watch ∙ l.invariant.watch) c.hear.ensures.told)
-          (c.hear.ensures.received ∙ ap (λ (n : ℕ). n + 1) received));
+          (record { away = λ is. (c.take_arrival.ensures.away is).0; heard = c.take_arrival.ensures.heard })
+          (subst (λ (watch : Bor g.row.V.Denot). Reports (g.V.Watch.observed watch.now) turn.exchange.now turn.stage turn.time arrival
+          l.pass c.take_arrival.new.pass) (c.take.ensures.watch ∙ l.invariant.watch) c.take_arrival.ensures.observed)
+          (c.take_arrival.ensures.received ∙ ap (λ (n : ℕ). n + 1) received));
     }
 
 pub loop-init : goal.loop-init
 loop-init g c =
     let turn = c.args.turn.now in
-    let told = g.V.Watch.told c.args.tally.now.watch.now in
+    let observed = g.V.Watch.observed c.args.tally.now.watch.now in
     let view : TurnView = record { stage = turn.stage; now = turn.time; challenge = turn.challenge.now } in
     record {
       received = omega arith;
@@ -159,6 +169,7 @@ loop-init g c =
       handed = gives_none (g.V.Watch.given c.args.tally.now.watch.now) c.args.pass.now;
       none_lost = refl;
       takes =
-          takes_none told turn.intake turn.exchange.now view c.args.inbox.now.datagram c.args.tally.now.report.received c.args.pass.now
+          takes_none observed turn.intake turn.exchange.now view c.args.inbox.now.datagram c.args.tally.now.report.received
+          c.args.pass.now
           (g.W.Wire.came c.args.wire.now);
     }

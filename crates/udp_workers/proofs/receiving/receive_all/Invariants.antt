@@ -28,7 +28,7 @@ invariant-loop g l = record {
   handed : GivesAll (g.V.Watch.given l.fn.tally.watch.now) l.fn.pass l.pass;
   none_lost : RiseAlike l.fn.inbox.given l.inbox.given (l.fn.tally.report.received + waiting l.fn.inbox.datagram)
       (l.tally.report.received + waiting l.inbox.datagram);
-  takes : TakesSoFar (g.V.Watch.told l.fn.tally.watch.now) l.turn.intake l.turn.exchange.now (record {
+  takes : TakesSoFar (g.V.Watch.observed l.fn.tally.watch.now) l.turn.intake l.turn.exchange.now (record {
     stage = l.turn.stage;
     now = l.turn.time;
     challenge = l.turn.challenge.now;

@@ -4,11 +4,11 @@ use Rattle.udp_workers.proofs.sending.send_frame.Goals as goal
 pub returns-in-Ok-false-clause-failures : goal.returns-in-Ok-false-clause-failures
 returns-in-Ok-false-clause-failures c = search rules
 
-pub returns-in-Ok-true-clause-told : goal.returns-in-Ok-true-clause-told
-returns-in-Ok-true-clause-told c = search rules
+pub returns-in-Ok-true-clause-observed : goal.returns-in-Ok-true-clause-observed
+returns-in-Ok-true-clause-observed c = search rules
 
 pub returns-in-Ok-false-clause-one : goal.returns-in-Ok-false-clause-one
 returns-in-Ok-false-clause-one c = search rules
 
-pub returns-in-Ok-false-clause-told : goal.returns-in-Ok-false-clause-told
-returns-in-Ok-false-clause-told c = search rules
+pub returns-in-Ok-false-clause-observed : goal.returns-in-Ok-false-clause-observed
+returns-in-Ok-false-clause-observed c = search rules

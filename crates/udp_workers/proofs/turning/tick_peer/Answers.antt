@@ -8,6 +8,6 @@ use Rattle.udp_workers.proofs.turning.tick_peer.Goals as goal
 pub returns-clause-handed : goal.returns-clause-handed
 returns-clause-handed g c =
     let given = g.V.Watch.given c.args.tally.now.watch.now in
-    let each = subst (All (λ (leg : Retired). given (departure_of leg))) c.deref.ensures.value c.tell_retired.ensures.given in
+    let each = subst (All (λ (leg : Retired). given (departure_of leg))) c.deref.ensures.value c.observe_retired.ensures.given in
     leave_gives given c.args.turn.now.time c.args.pass.now c.tick-answer.new.pass c.tick-answer.result.retired.items
     c.tick-answer.ensures.retired each

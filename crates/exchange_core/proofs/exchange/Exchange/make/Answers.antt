@@ -5,7 +5,7 @@ use Rattle.exchange_core.proofs.Leaving.{none_leave}
 use Rattle.exchange_core.proofs.exchange.Exchange.make.Goals as goal
 
 pub returns-in-Datagram-clause-left : goal.returns-in-Datagram-clause-left
-returns-in-Datagram-clause-left g c = none_leave _ _ _ _ _ _ (c.hear_given.ensures.noted None) refl c.args.given.now.now
+returns-in-Datagram-clause-left g c = none_leave _ _ _ _ _ _ (c.datagram_given.ensures.noted None) refl c.args.given.now.now
     (leaving_of c.args.resources.now.retired_legs)
 
 pub returns-in-RejectNew-clause-left : goal.returns-in-RejectNew-clause-left
@@ -29,7 +29,7 @@ returns-in-Tick-clause-left g c = none_leave _ _ _ _ _ _ (c.tick_given.ensures.n
 
 pub returns-in-Look-clause-left : goal.returns-in-Look-clause-left
 returns-in-Look-clause-left g c =
-    none_leave _ _ _ _ _ _ (c.look_at.ensures.noted c.args.given.now None) refl c.args.given.now.now
+    none_leave _ _ _ _ _ _ (c.status_at.ensures.noted c.args.given.now None) refl c.args.given.now.now
     (leaving_of c.args.resources.now.retired_legs)
 
 pub returns-in-Reserve-clause-left : goal.returns-in-Reserve-clause-left

@@ -1,4 +1,4 @@
-use Rattle.std.specs.Prelude.{Result, Err, IfErr}
+use Rattle.std.specs.Prelude.{Result, IfErr}
 use Rattle.std.proofs.Common.{◌≡◌, Some, subst}
 use Rattle.peer_lock.specs.Delivery.{Delivery, Reaches, NeedsNumber, NoToken, Gets, Pongs, NoCall, closed_to_calls}
 use Rattle.peer_lock.specs.Delivery.{delivery_refused, legless}

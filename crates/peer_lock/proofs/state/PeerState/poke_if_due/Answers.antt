@@ -1,4 +1,4 @@
-use Rattle.std.proofs.Common.{◌≡◌, ℕ, true, false, cond, List, [], ◌∷◌, ◌∙◌, ap, sym, not, rules, Bool}
+use Rattle.std.proofs.Common.{◌≡◌, ℕ, true, cond, List, [], ◌∷◌, ◌∙◌, ap, sym, rules, Bool}
 use Rattle.outbox.specs.Outbox.{put}
 use Rattle.peer_lock.specs.Peer.{PeerView}
 use Rattle.peer_lock.specs.Pokes.{is_poke_due, poke_octets, poke_stamp, poked, pokes_after, pokes_sent}
@@ -13,7 +13,8 @@ returns g c =
     let stamp : ℕ = poke_stamp view.rules now in
     let due : is_poke_due view.rules view.pokes now ≡ true = search rules in
     let written : c.in-Ok.out ≡ poke_octets stamp = search rules in
-    let sent : pokes_sent view.rules view.pokes now ≡ poke_octets stamp ∷ [] = ap (λ (b : Bool). cond b (poke_octets stamp ∷ []) [])
+    let sent : pokes_sent view.rules view.pokes now ≡ poke_octets stamp ∷ [] = ap (λ (b : Bool). cond b (poke_octets stamp ∷
+    []) [])
     due in
     let after : pokes_after view.rules view.pokes now ≡ poked view.rules view.pokes now =
     ap (λ (b : Bool). cond b (poked view.rules view.pokes now) view.pokes) due in

@@ -21,7 +21,7 @@ pub returns-clause-made : goal.returns-clause-made
 returns-clause-made g c named here =
     let after : NamedLeg = record { name = named.name; leg = (full_step named.leg c.args.frame.now c.args.now).leg } in
     let there = c.in_ok-heard.ensures.there named here in
-    reached g.J.LedgerSet.first_octets c.args.self.now c.hear.new.self c.hand_on.new.self named c.args.frame.now c.args.now
+    reached g.J.LedgerSet.first_octets c.args.self.now c.deliver.new.self c.hand_on.new.self named c.args.frame.now c.args.now
     c.in_ok-heard.heard
     c.hand_on.result c.args.pass.now c.hand_on.new.pass c.hand_on.new.onwards
     (c.in_ok-heard.ensures.peer named here) (c.in_ok-heard.ensures.heard named here) c.hand_on.ensures.peer

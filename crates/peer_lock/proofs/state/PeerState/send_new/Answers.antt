@@ -9,7 +9,8 @@ use Rattle.peer_lock.proofs.state.PeerState.send_new.Goals as goal
 pub returns-clause-peer : goal.returns-clause-peer
 returns-clause-peer g c =
     let sent : c.put_all.new.outbox ≡ put c.self.inside.outbox c.open_out_into.new.replies = search rules in
-    sent_new (view_of c.self.view_is) c.args.self.now c.args.name c.free_number-number.result c.args.called.now c.args.caller.now c.args.format c.args.now
+    sent_new (view_of c.self.view_is) c.args.self.now c.args.name c.free_number-number.result c.args.called.now
+    c.args.caller.now c.args.format c.args.now
     c.put_all.new.outbox c.open_out_into.new.replies c.self.view_is c.free_number-number.ensures.number sent
     c.in_ok-leg.ensures.replies
 

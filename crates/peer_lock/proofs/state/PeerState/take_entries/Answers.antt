@@ -1,11 +1,11 @@
-use Rattle.std.proofs.Common.{◌≡◌, ◌≤◌, ◌-◌, ◌+◌, [], None, ap, false, length, map, refl, rules, subst, sym, true, ◌∙◌}
+use Rattle.std.proofs.Common.{◌≡◌, ◌≤◌, ◌-◌, ◌+◌, [], None, ap, false, length, map, rules, subst, sym, true, ◌∙◌}
 use Rattle.iax_frames.specs.TrunkFrame.{entry_item, is_timed}
 use Rattle.call_signals.specs.declared.signal.MediaSpan.{MediaSpan}
 use Rattle.peer_legs.specs.Legs.{AreLegs, has_remote, leg_at, leg_of_remote}
 use Rattle.peer_lock.specs.Arrivals.{trunk_media, entry_span}
 use Rattle.peer_lock.specs.Peer.{PeerView}
 use Rattle.peer_lock.specs.TrunkEntries.{CountsEntry, drops_entries}
-use Rattle.peer_lock.proofs.Entries.{IsCounted, IsNext, MayTake, beyond_share, none_counted, of_none, takes_share}
+use Rattle.peer_lock.proofs.Entries.{MayTake, beyond_share, none_counted, of_none, takes_share}
 use Rattle.peer_lock.proofs.state.PeerState.take_entries.Goals as goal
 use Rattle.peer_lock.proofs.state.PeerState.take_entries.Goals.{else-is_limited-via-then-is_limited+else-not-counts_entry}
 use Rattle.peer_lock.proofs.state.PeerState.take_entries.Goals.{else-is_limited-via-else-is_limited}
@@ -47,7 +47,11 @@ loop-entry-preserved g c =
     let none : leg_of_remote c.loop-entry.self.legs c.in-Some.entry.0 ≡ None = search rules in (
       tt,
       tt,
-      of_none _ _ _ _ _ _ _ span _ _ _ _ _ _ _ _ c.loop-entry.invariant.2 (record { these = c.in-Some.ensures.steps; here = here })
+      of_none _ _ _ _ _ _ _ span _ _ _ _ _ _ _ _ c.loop-entry.invariant.2 (record {
+        these = c.in-Some.ensures.steps;
+        here =
+            here;
+      })
           none,
     )
 

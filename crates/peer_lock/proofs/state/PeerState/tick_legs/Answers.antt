@@ -40,7 +40,7 @@ loop-index-preserved g c =
 
 pub returns-then-are_resting : goal.returns-then-are_resting
 returns-then-are_resting g c =
-    none_to_tick c.idle_legs_stay.ensures c.args.self.now c.args.now c.place_count-count.ensures.outbox
+    none_to_tick c.resting_legs_stay.ensures c.args.self.now c.args.now c.place_count-count.ensures.outbox
     (subst (λ (peer : PeerView). All (λ place. is_resting place c.args.now ≡ true) peer.legs.places) c.self.view_is
     (c.are_resting.ensures c.if-are_resting.true))
 

@@ -12,7 +12,7 @@ returns g c =
           sym c.payload.ensures,
           sym c.of.ensures,
           sym c.of-2.ensures,
-          sym c.told.ensures,
+          sym c.noted_answer.ensures,
           sym c.of-handed.ensures,
         ) c.push.ensures.items;
         begun = c.push.ensures.begun;

@@ -6,7 +6,7 @@ returns g c =
     rw (sym c.self.view_is, sym c.pass.view_is)
     record {
       noted = record {
-        made = rw (sym c.name-name.ensures, sym c.of.ensures, sym c.of-2.ensures, sym c.told.ensures)
+        made = rw (sym c.name-name.ensures, sym c.of.ensures, sym c.of-2.ensures, sym c.noted_answer.ensures)
             c.push.ensures.items;
         begun = c.push.ensures.begun;
       };

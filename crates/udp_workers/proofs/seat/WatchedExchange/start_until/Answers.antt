@@ -11,6 +11,7 @@ spawn-requires-send-F g c κs within =
     param_send 1 _ (arg_send _ no _ (
     lent_send (param 2 g.row.J) (param 3 g.row.P) (param 4 g.row.J-Octets) (param 5 g.row.J-Steps) g.J.LedgerSet g.P.PlanBrand
     g.J.Octets.Ledger g.J.Steps.Ledger _ _ _ _ _ (param 0 g.row.V) (param 1 g.row.G) (param 7 g.row.W) (param 8 g.row.M)
-    (param 9 g.row.C) (param 10 g.row.O) (param 11 g.row.R) g.V.Watch g.W.Wire g.M.TurnClock g.C.Challenges may.sync-V may.sync-G may.send-W may.send-M
+    (param 9 g.row.C) (param 10 g.row.O) (param 11 g.row.R) g.V.Watch g.W.Wire g.M.TurnClock g.C.Challenges may.sync-V
+    may.sync-G may.send-W may.send-M
     may.send-C may.send-O may.sync-R
     ))

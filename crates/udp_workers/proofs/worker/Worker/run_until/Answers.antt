@@ -23,21 +23,21 @@ loop-made-preserved g c =
     let all = c.ticks_all.result in
     let view : TurnView = record { stage = c.stage-stage.result; now = c.now-time.result; challenge = c.draw.result } in
     let run = l.invariant.intake.0 in
-    let told = g.V.Watch.told c.args.watch.now in
+    let observed = g.V.Watch.observed c.args.watch.now in
     let now = passed_by (g.W.Wire.came made.new.wire) (g.W.Wire.went made.new.wire) in
-    let turned : MakesAndReports told c.args.intake c.args.exchange.now c.args.self.now.peers all view run.left
+    let turned : MakesAndReports observed c.args.intake c.args.exchange.now c.args.self.now.peers all view run.left
     made.new.inbox.datagram l.tally.report.received made.new.tally.report.received l.pass made.new.pass
     (passed_by (g.W.Wire.came l.wire) (g.W.Wire.went l.wire)) now =
-    subst (λ was. MakesAndReports told c.args.intake c.args.exchange.now c.args.self.now.peers all view was
+    subst (λ was. MakesAndReports observed c.args.intake c.args.exchange.now c.args.self.now.peers all view was
     made.new.inbox.datagram l.tally.report.received made.new.tally.report.received l.pass made.new.pass
     (passed_by (g.W.Wire.came l.wire) (g.W.Wire.went l.wire)) now) (sym l.invariant.intake.1)
-    (subst (λ from. MakesAndReports told c.args.intake c.args.exchange.now c.args.self.now.peers all view l.inbox.datagram
+    (subst (λ from. MakesAndReports observed c.args.intake c.args.exchange.now c.args.self.now.peers all view l.inbox.datagram
     made.new.inbox.datagram l.tally.report.received made.new.tally.report.received l.pass made.new.pass from now)
     (passed_same c.pause.ensures.came c.pause.ensures.went)
-    (subst (λ peers. MakesAndReports told c.args.intake c.args.exchange.now peers all view l.inbox.datagram
+    (subst (λ peers. MakesAndReports observed c.args.intake c.args.exchange.now peers all view l.inbox.datagram
     made.new.inbox.datagram l.tally.report.received made.new.tally.report.received l.pass made.new.pass
     (passed_by (g.W.Wire.came c.pause.new.wire) (g.W.Wire.went c.pause.new.wire)) now) l.invariant.peers
-    (subst (λ (watch : g.row.V.Denot). MakesAndReports (g.V.Watch.told watch) c.args.intake c.args.exchange.now l.self.peers all
+    (subst (λ (watch : g.row.V.Denot). MakesAndReports (g.V.Watch.observed watch) c.args.intake c.args.exchange.now l.self.peers all
     view l.inbox.datagram made.new.inbox.datagram l.tally.report.received made.new.tally.report.received l.pass made.new.pass
     (passed_by (g.W.Wire.came c.pause.new.wire) (g.W.Wire.went c.pause.new.wire)) now) l.invariant.watch made.ensures.turn))) in
     let few : length l.self.peers ≤ 32 = subst (λ (peers : List ℕ). length peers ≤ 32) made.ensures.peers made.ensures.few in
@@ -153,7 +153,7 @@ returns-clause-turns c = search rules
 pub returns-then-eq-clause-intake : goal.returns-then-eq-clause-intake
 returns-then-eq-clause-intake g c =
     let l = c.loop-made in
-    subst (λ (end : Passed). RunsTurns (g.V.Watch.told c.args.watch.now) g.M.TurnClock.gave g.C.Challenges.gave
+    subst (λ (end : Passed). RunsTurns (g.V.Watch.observed c.args.watch.now) g.M.TurnClock.gave g.C.Challenges.gave
     c.args.context.moments.now l.moments c.args.context.challenges.now l.challenges c.args.intake c.args.exchange.now
     c.args.self.now.peers l.tally.report.received c.args.pass.now l.pass
     (passed_by (g.W.Wire.came c.args.wire.now) (g.W.Wire.went c.args.wire.now)) end)

@@ -24,7 +24,7 @@ invariant-loop-made g l = record {
   handed : GivesAll (g.V.Watch.given l.watch) l.fn.pass l.pass;
   place : l.self.place ≡ l.fn.self.place;
   peers : l.self.peers ≡ l.fn.self.peers;
-  intake : (run : RunsTurns (g.V.Watch.told l.watch) g.M.TurnClock.gave g.C.Challenges.gave l.fn.context.moments.now l.moments
+  intake : (run : RunsTurns (g.V.Watch.observed l.watch) g.M.TurnClock.gave g.C.Challenges.gave l.fn.context.moments.now l.moments
       l.fn.context.challenges.now l.challenges l.intake l.exchange l.fn.self.peers l.tally.report.received l.fn.pass l.pass
       (record { came = g.W.Wire.came l.fn.wire; went = g.W.Wire.went l.fn.wire })
       (record { came = g.W.Wire.came l.wire; went = g.W.Wire.went l.wire }))

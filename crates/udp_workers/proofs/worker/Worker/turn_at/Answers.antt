@@ -132,7 +132,7 @@ returns-clause-turn g c =
     let went = g.W.Wire.went c.args.wire.now in
     let went_now = g.W.Wire.went c.empty_due-was_full.new.wire in
     let view : TurnView = record { stage = turn.stage; now = turn.time; challenge = turn.challenge.now } in
-    let told = g.V.Watch.told c.args.tally.now.watch.now in
+    let observed = g.V.Watch.observed c.args.tally.now.watch.now in
     let own = c.as_slice-peers.ensures.value ∙ ap (λ (worker : WorkerView). worker.peers) c.self.view_is in
     let counted = received_of c.end_turn.ensures.report ∙ c.empty_due-was_full.ensures.received
     ∙ c.tick_due-has_left_out.ensures.only.received ∙ received_of c.begin_ticks.ensures.report in
@@ -141,18 +141,18 @@ returns-clause-turn g c =
     c.receive_all.ensures.went
     (subst (λ end. EmptiesDue plan turn.all c.as_slice-peers.result.now ticked end (g.W.Wire.went c.receive_all.new.wire)
     went_now) (sym c.wake_others.ensures) c.empty_due-was_full.ensures.empties) in
-    let heard : TakesAndReports told turn.intake plan view c.args.inbox.now.datagram c.receive_all.new.inbox.datagram
+    let heard : TakesAndReports observed turn.intake plan view c.args.inbox.now.datagram c.receive_all.new.inbox.datagram
     c.args.tally.now.report.received c.end_turn.new.self.report.received c.args.pass.now arrived came
     (g.W.Wire.came c.empty_due-was_full.new.wire) =
-    subst (λ end. TakesAndReports told turn.intake plan view c.args.inbox.now.datagram c.receive_all.new.inbox.datagram
+    subst (λ end. TakesAndReports observed turn.intake plan view c.args.inbox.now.datagram c.receive_all.new.inbox.datagram
     c.args.tally.now.report.received c.end_turn.new.self.report.received c.args.pass.now arrived came end)
     (sym c.empty_due-was_full.ensures.came)
-    (subst (λ (n : ℕ). TakesAndReports told turn.intake plan view c.args.inbox.now.datagram c.receive_all.new.inbox.datagram
+    (subst (λ (n : ℕ). TakesAndReports observed turn.intake plan view c.args.inbox.now.datagram c.receive_all.new.inbox.datagram
     c.args.tally.now.report.received n c.args.pass.now arrived came (g.W.Wire.came c.receive_all.new.wire)) (sym counted)
-    (subst (λ (n : ℕ). TakesAndReports told turn.intake plan view c.args.inbox.now.datagram c.receive_all.new.inbox.datagram
+    (subst (λ (n : ℕ). TakesAndReports observed turn.intake plan view c.args.inbox.now.datagram c.receive_all.new.inbox.datagram
     n c.receive_all.new.tally.report.received c.args.pass.now arrived came (g.W.Wire.came c.receive_all.new.wire))
     (received_of c.begin_turn.ensures.report)
-    (subst (λ (w : Bor g.row.V.Denot). TakesAndReports (g.V.Watch.told w.now) turn.intake plan view
+    (subst (λ (w : Bor g.row.V.Denot). TakesAndReports (g.V.Watch.observed w.now) turn.intake plan view
     c.args.inbox.now.datagram c.receive_all.new.inbox.datagram c.begin_turn.new.self.report.received
     c.receive_all.new.tally.report.received c.args.pass.now arrived came (g.W.Wire.came c.receive_all.new.wire))
     c.begin_turn.ensures.watch c.receive_all.ensures.takes))) in

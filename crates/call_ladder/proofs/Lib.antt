@@ -1,2 +1,0 @@
-mod FoldLemmas
-mod ReadLemmas

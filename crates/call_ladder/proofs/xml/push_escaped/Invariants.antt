@@ -1,8 +1,0 @@
-use Rattle.std.proofs.Common.{◌≡◌, ◌++◌, drop}
-use Rattle.std.specs.List.{flat_map}
-use Rattle.call_ladder.specs.Xml.{xml_octet}
-use Rattle.call_ladder.proofs.xml.push_escaped.Given as goal
-
-abbrev pub invariant-loop-octet : goal.invariant-loop-octet
-invariant-loop-octet l =
-    l.out.items ++ flat_map xml_octet (drop l.octet-index l.text) ≡ l.initial.out.items ++ flat_map xml_octet l.text

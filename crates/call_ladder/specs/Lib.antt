@@ -1,4 +1,0 @@
-pub mod Legend
-pub mod MediaRuns
-pub mod Wrapping
-pub mod Xml

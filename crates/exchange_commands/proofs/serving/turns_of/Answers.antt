@@ -1,6 +1,0 @@
-use denote.Param.Send.{sendable}
-use Rattle.exchange_commands.proofs.serving.turns_of.Goals as goal
-use Rattle.worker_setup.proofs.Sending.{traced_send}
-
-pub run_all-ran-requires-send-O : goal.run_all-ran-requires-send-O
-run_all-ran-requires-send-O g c κs within = search (traced_send, sendable) parts 8

@@ -1,0 +1,9 @@
+pub mod CarriedPlaces
+pub mod CarryingLaws
+pub mod CrossingLaws
+pub mod CrossingTurns
+pub mod CrossingWires
+pub mod RoomLaws
+pub mod StepRoom
+pub mod TurnRoom
+pub mod VnakFrames

@@ -1,0 +1,4 @@
+//! Laws alone: of draining services, and of the datagrams that a worker's turns take.
+#![tactic(auto)]
+
+pub mod laws;

@@ -1,9 +1,0 @@
-use Rattle.peer_lock.proofs.FewAgain.{vnak_few}
-use Rattle.peer_lock.proofs.RoomSteps.{full_frame_few}
-use Rattle.peer_lock.proofs.laws.full_frames_bring_few_answers.Goals as goal
-
-pub returns-clause-others : goal.returns-clause-others
-returns-clause-others c peer frame now other = full_frame_few peer frame now other
-
-pub returns-clause-vnaks : goal.returns-clause-vnaks
-returns-clause-vnaks c peer frame now sound = vnak_few peer frame now sound

@@ -1,5 +1,0 @@
-use Rattle.peer_lock.proofs.NoneDropped.{none_dropped}
-use Rattle.peer_lock.proofs.laws.full_trunk_queues_drop_nothing.Goals as goal
-
-pub returns : goal.returns
-returns c peer name order now named waiting short is other = none_dropped peer name order now named waiting short is other
