@@ -7,10 +7,12 @@ from collections import Counter, namedtuple
 from types import SimpleNamespace
 
 from iax_test.frames import (
-    CAPABILITY, ENTRY, FORMAT, STAMPED_ENTRY, STAMPED_TRUNK, TRUNK, FullFrame, answer_to, cause_code, challenge_data, element, md5_result, mini_frame, new_data,
+    CAPABILITY, ENTRY, FORMAT, STAMPED_ENTRY, STAMPED_TRUNK, TRUNK, FullFrame, answer_to, cause_code, challenge_data, element,
+    md5_result, mini_frame, new_data,
 )
 from iax_test.protocol import (
-    ACCEPT, ACK, ANSWER, AUTHREP, AUTHREQ, HANGUP, INVAL, LAGRP, LAGRQ, NEW, NO_LEG, PING, POKE, PONG, PROCEEDING, PROGRESS, REJECT, RINGING, UNNUMBERED,
+    ACCEPT, ACK, ANSWER, AUTHREP, AUTHREQ, HANGUP, INVAL, LAGRP, LAGRQ, NEW, NO_LEG, PING, POKE, PONG, PROCEEDING, PROGRESS,
+    REJECT, RINGING, UNNUMBERED,
     VNAK, VOICE, Element, FrameType, Kind,
 )
 
@@ -18,7 +20,10 @@ LIVE, TALKING, OVER = ("Waiting", "Challenged", "Offered", "Linked", "Up"), ("Li
 CAUSES = {1: b"unallocated number", 16: b"normal clearing", 17: b"user busy", 18: b"no user responding", 21: b"call rejected"}
 CAUSES |= {28: b"invalid number format", 34: b"no channel available", 42: b"switching equipment congestion"}
 # Answers to a NEW, which have to acknowledge it.
-ANSWERS = {ACCEPT: "3 ACCEPT unacknowledged", AUTHREQ: "3 AUTHREQ unacknowledged", REJECT: "3 REJECT unacknowledged", HANGUP: "3 HANGUP unacknowledged"}
+ANSWERS = {
+    ACCEPT: "3 ACCEPT unacknowledged", AUTHREQ: "3 AUTHREQ unacknowledged", REJECT: "3 REJECT unacknowledged",
+    HANGUP: "3 HANGUP unacknowledged",
+}
 # The challenge of a script without a line `challenge`; octets of a trunk frame that goes out, and of media.
 CHALLENGE, LONGEST, MOST_MEDIA = b"0", 1400, 1380
 # The most entries of one call in a trunk frame: of one that comes the others are dropped.
@@ -69,7 +74,9 @@ def entries_of(octets):
 # The answer to a message: the reply, its data, the stage after, what is handed up, and why the leg ends if it does.
 Row = namedtuple("Row", "reply data stage up cause", defaults=(ACK, b"", None, (None,), 16))
 # The answers that depend on the stage and the message alone. `Leg.row` has the others; all else is answered by ACK.
-TABLE = {("Linked", it): Row(up=("Indicate", it)) for it in (RINGING, PROGRESS, PROCEEDING)} | {("Linked", ANSWER): Row(stage="Up", up=("Answer", ANSWER))}
+TABLE = {
+    ("Linked", it): Row(up=("Indicate", it)) for it in (RINGING, PROGRESS, PROCEEDING)
+} | {("Linked", ANSWER): Row(stage="Up", up=("Answer", ANSWER))}
 TABLE |= {(it, kind): Row(reply) for it in LIVE for kind, reply in ((PING, PONG), (LAGRQ, LAGRP))}
 BUSY, CONGESTION, CONTROL_HANGUP = Kind(4, 5), Kind(4, 8), Kind(4, 1)
 ENDS = ((BUSY, 17), (CONGESTION, 42), (CONTROL_HANGUP, 16))
@@ -80,15 +87,18 @@ OFFERED = Row(None, stage="Offered", up=("Offered",))
 # The orders: the stages that take them, whether they may fill the whole window, and the stage after.
 ORDERS = {
     "Accept": (("Offered",), True, "Linked"), "Reject": (("Offered",), True, "Closing"), "Hangup": (LIVE, True, "Closing"),
-    "Indicate": (("Linked",), False, None), "Answer": (("Linked",), False, "Up"), "Dtmf": (TALKING, False, None), "Voice": (TALKING, False, None),
+    "Indicate": (("Linked",), False, None), "Answer": (("Linked",), False, "Up"), "Dtmf": (TALKING, False, None),
+    "Voice": (TALKING, False, None),
 }
 
 
 class Leg:
-    """One end of a call. `sent`, `acked` and `taken` count numbered frames, `acks` acknowledgements of such, `octets` their data."""
+    """One end of a call. `sent`, `acked` and `taken` count numbered frames, `acks` acknowledgements of such, `octets` their
+    data."""
 
     def __init__(self, peer, stage, called, remote=None):
-        self.exchange, self.plan, self.peer, self.number, self.stage = peer.exchange, peer.exchange.plan, peer, peer.free.pop(0), stage
+        self.exchange, self.plan, self.peer = peer.exchange, peer.exchange.plan, peer
+        self.number, self.stage = peer.free.pop(0), stage
         self.called, self.remote, self.opened, self.partner = called, remote, self.exchange.moment, None
         self.sent = self.acked = self.acks = self.taken = self.octets = 0
         self.held, self.cause, self.voice_at, self.asked_at, self.last_vnak, self.all_at = [], 16, -1, NEVER, (NEVER, None), NEVER
@@ -113,7 +123,9 @@ class Leg:
         """Sends a numbered frame."""
         timestamp = self.exchange.moment - self.opened if timestamp is None else timestamp
         self.put(kind, timestamp, data)
-        self.held.append(SimpleNamespace(number=self.sent, kind=kind, data=data, timestamp=timestamp, last=self.exchange.moment, tries=0, is_early=False))
+        held = SimpleNamespace(number=self.sent, kind=kind, data=data, timestamp=timestamp, tries=0, is_early=False)
+        held.last = self.exchange.moment
+        self.held.append(held)
         self.sent, self.octets = self.sent + 1, self.octets + len(data)
 
     def send_again(self, held, tries):
@@ -206,7 +218,10 @@ class Leg:
         if message == ("Challenged", AUTHREP):
             return OFFERED if values.get(Element.MD5_RESULT, b"").lower() == md5_result(CHALLENGE, self.peer.secret) else REJECTED
         if message == ("Waiting", AUTHREQ):
-            is_right = values.get(Element.AUTHMETHODS) == b"\0\2" and Element.CHALLENGE in values and self.peer.secret and not self.was_challenged
+            is_right = (
+                values.get(Element.AUTHMETHODS) == b"\0\2" and Element.CHALLENGE in values
+                and self.peer.secret and not self.was_challenged
+            )
             return Row(AUTHREP, answer_to(values[Element.CHALLENGE], self.peer.secret)) if is_right else HUNG_UP
         if message == ("Waiting", ACCEPT):
             return Row(stage="Linked") if values.get(Element.FORMAT, FORMAT[2:]) == FORMAT[2:] else HUNG_UP
@@ -234,7 +249,10 @@ class Leg:
         return row.up
 
     def tick(self):
-        if self.stage == "Ended" or self.is_full() or self.stage == "Challenged" and self.exchange.moment - self.opened >= self.plan["challenge_ms"]:
+        if (
+            self.stage == "Ended" or self.is_full()
+            or self.stage == "Challenged" and self.exchange.moment - self.opened >= self.plan["challenge_ms"]
+        ):
             return self.become("Ended")
         if self.is_doomed:
             self.order("Hangup", HANGUP, cause(16))
@@ -242,7 +260,9 @@ class Leg:
             if self.exchange.moment - held.last >= self.plan["retry_ms"]:
                 if held.tries >= self.plan["max_retries"]:
                     return self.become("Ended", 18)
-                met["4 due again after the two frames"] += held.is_early and self.exchange.moment - self.all_at < self.plan["retry_ms"]
+                met["4 due again after the two frames"] += (
+                    held.is_early and self.exchange.moment - self.all_at < self.plan["retry_ms"]
+                )
                 held.is_early = False
                 self.send_again(held, 1)
 
@@ -251,8 +271,9 @@ class Peer:
     """A peer: its legs by number, its free numbers in the order in which they are given out, its outbox and trunk queue."""
 
     def __init__(self, exchange, keys, first):
-        self.exchange, self.name, self.most, self.window, self.poke = exchange, keys["name"], keys["numbers"], keys["window"], keys["poke"]
-        self.user, self.secret, self.local_room = (keys["user"] or "").encode(), (keys["secret"] or "").encode(), self.window - self.window // 4
+        self.exchange, self.name, self.most = exchange, keys["name"], keys["numbers"]
+        self.window, self.poke, self.local_room = keys["window"], keys["poke"], keys["window"] - keys["window"] // 4
+        self.user, self.secret = (keys["user"] or "").encode(), (keys["secret"] or "").encode()
         self.trunk, self.has_stamps, self.queued_at, self.is_ticking = keys["trunk"], keys["trunk_timestamps"], 0, False
         self.free, self.legs, self.outbox, self.queue, self.queued = [*range(first, first + self.most)], {}, [], b"", Counter()
 
@@ -364,7 +385,9 @@ class Exchange:
             return peer.put(FullFrame(NO_LEG, frame.source, frame.timestamp, 0, frame.oseq + 1, REJECT, cause(42)).packed())
         values, row = elements_of(frame.data), OFFERED
         leg = Leg(peer, "Offered", values.get(Element.CALLED_NUMBER, b""), frame.source)
-        if values.get(Element.VERSION) != b"\0\2" or FORMAT[2:] not in (values.get(Element.FORMAT), values.get(Element.CAPABILITY)):
+        if values.get(Element.VERSION) != b"\0\2" or FORMAT[2:] not in (
+            values.get(Element.FORMAT), values.get(Element.CAPABILITY)
+        ):
             row = REJECTED
         elif peer.secret:
             row = Row(AUTHREQ, element(Element.USERNAME, peer.user) + challenge_data(CHALLENGE), "Challenged")
@@ -404,7 +427,9 @@ class Exchange:
         else:
             leg.partner = Leg(target, "Waiting", leg.called)
             leg.partner.partner = leg
-            leg.partner.send(NEW, new_data(leg.called, element(Element.USERNAME, target.user) if target.user else b"", FORMAT, CAPABILITY))
+            leg.partner.send(
+                NEW, new_data(leg.called, element(Element.USERNAME, target.user) if target.user else b"", FORMAT, CAPABILITY)
+            )
 
     def media(self, leg, media):
         if leg and leg.stage in TALKING and leg.has_taken_voice and 0 < len(media) <= MOST_MEDIA and leg.partner:
@@ -413,7 +438,8 @@ class Exchange:
     def finish(self, leg):
         """Hangs up the partner of a leg that is over, and takes out one that has ended."""
         if leg.owes:
-            leg.owes = leg.partner is not None and leg.partner.order("Hangup", HANGUP, cause(leg.cause)) in ("WindowFull", "RecordFull")
+            wants = ("WindowFull", "RecordFull")
+            leg.owes = leg.partner is not None and leg.partner.order("Hangup", HANGUP, cause(leg.cause)) in wants
         if leg.stage == "Ended" and not leg.owes:
             if leg.number in leg.peer.queued:
                 leg.peer.send_queue()

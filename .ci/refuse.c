@@ -2,9 +2,10 @@
    environment has as REFUSED_MEMORY, or the thread whose place it has as REFUSED_THREAD. Says so on standard error, and also
    when the system refuses to bind a socket.
 
-   Of a file of call records (its name ends in .csv) REFUSED_WRITE is the place of the first write that fails, after REFUSED_WRITE_CUT of
-   its octets, and REFUSED_WRITES how many behind it fail; with REFUSED_SYNC it can't be put on the disk. Both end once there is a file of the name
-   REFUSED_UNTIL. Each write to a file whose name ends in SLOW_FILES takes SLOW_MS milliseconds longer.
+   Of a file of call records (its name ends in .csv) REFUSED_WRITE is the place of the first write that fails, after
+   REFUSED_WRITE_CUT of its octets, and REFUSED_WRITES how many behind it fail; with REFUSED_SYNC it can't be put on the disk.
+   Both end once there is a file of the name REFUSED_UNTIL. Each write to a file whose name ends in SLOW_FILES takes SLOW_MS
+   milliseconds longer.
 
    With BLOCKED_SENDS each datagram over IPv4 would have to wait, until there is a file of the name REFUSED_UNTIL. */
 #define _GNU_SOURCE

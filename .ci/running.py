@@ -65,7 +65,8 @@ def write_plan(file, worker, west, east):
     """Writes the plan of a worker with two peers, of which the west has a secret."""
     secret = ('user = "exchange"', 'secret = "a secret of the west"')
     with open(file, "w", encoding="utf-8") as plan:
-        plan.write(plan_text([(LOOPBACK, worker)], [("west", west.port, 0, 4, *secret), ("east", east.port, 0, 4)], "format = 1\nrecord_limit = 65536"))
+        peers = [("west", west.port, 0, 4, *secret), ("east", east.port, 0, 4)]
+        plan.write(plan_text([(LOOPBACK, worker)], peers, "format = 1\nrecord_limit = 65536"))
 
 
 def element_of(frame, code):

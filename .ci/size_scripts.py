@@ -43,7 +43,8 @@ NEW_FOR_300 = new_data(b"300", FORMAT, CAPABILITY)
 # A call of the west to the east, at moment 0, until both legs are up and hold no frame; and what is said of it.
 CALL_UP = [
     f"rx west {full(7, 0, 0, 0, 0, NEW, NEW_FOR_300)}",
-    f"rx east {full(9, 5, 3, 0, 1, ACCEPT, FORMAT)}", f"rx east {full(9, 5, 13, 1, 1, ANSWER)}", f"rx west {full(7, 1, 0, 1, 2, ACK)}",
+    f"rx east {full(9, 5, 3, 0, 1, ACCEPT, FORMAT)}", f"rx east {full(9, 5, 13, 1, 1, ANSWER)}",
+    f"rx west {full(7, 1, 0, 1, 2, ACK)}",
 ]
 SAID_UP = [
     f"tx west {full(1, 7, 0, 0, 1, ACCEPT, FORMAT)}", f"tx east {full(5, 0, 0, 0, 0, NEW, NEW_FOR_300)}",
@@ -96,7 +97,8 @@ def scenes_at_late_moments(folder, program):
 
 
 def a_call_of_fifty_days(folder, program):
-    """A call lasts for more than 2^32 ms. Its PING, its digit and its HANGUP bear what is left of its length; a frame is sent again as ever."""
+    """A call lasts for more than 2^32 ms. Its PING, its digit and its HANGUP bear what is left of its length; a frame is sent
+    again as ever."""
     length = 2**32 + 1000
     head = "format = 1\nping_ms = 600000\nrecord_limit = 65536"
     plan = written(folder, "days.plan", plan_text([(LOOPBACK, 4569)], [("west", 5001, 0, 4), ("east", 5002, 0, 4)], head))
@@ -104,15 +106,20 @@ def a_call_of_fifty_days(folder, program):
         *CALL_UP,
         f"at {length}", "tick", f"at {length + 1000}", "tick",
         f"rx west {full(7, 1, length + 1000, 1, 3, ACK)}", f"rx east {full(9, 5, length + 1000, 2, 2, ACK)}",
-        f"at {length + 1500}", f"rx west {full(7, 1, length + 1500, 1, 3, digit_kind(0x35))}", f"rx east {full(9, 5, 0, 2, 3, ACK)}",
+        f"at {length + 1500}", f"rx west {full(7, 1, length + 1500, 1, 3, digit_kind(0x35))}",
+        f"rx east {full(9, 5, 0, 2, 3, ACK)}",
         "hangup 1", f"rx west {full(7, 1, length + 1500, 2, 4, ACK)}", f"rx east {full(9, 5, 0, 2, 4, ACK)}", "settle",
     ]
     pings = [f"tx west {full(1, 7, length, 2, 1, PING)}", f"tx east {full(5, 9, length, 1, 2, PING)}"]
-    again = [f"tx {peer} {full(*fields, PING, is_retransmitted=True)}" for peer, *fields in (("west", 1, 7, length, 2, 1), ("east", 5, 9, length, 1, 2))]
+    again = [
+        f"tx {peer} {full(*fields, PING, is_retransmitted=True)}"
+        for peer, *fields in (("west", 1, 7, length, 2, 1), ("east", 5, 9, length, 1, 2))
+    ]
     wanted = [
         *SAID_UP, *pings, *again,
         f"tx west {full(1, 7, length + 1500, 3, 2, ACK)}", f"tx east {full(5, 9, length + 1500, 2, 2, digit_kind(0x35))}",
-        f"tx west {full(1, 7, length + 1500, 3, 2, HANGUP, CAUSE_16)}", f"tx east {full(5, 9, length + 1500, 3, 2, HANGUP, CAUSE_16)}",
+        f"tx west {full(1, 7, length + 1500, 3, 2, HANGUP, CAUSE_16)}",
+        f"tx east {full(5, 9, length + 1500, 3, 2, HANGUP, CAUSE_16)}",
         "leg 1 Closing", "leg 5 Closing", "retired 1 4 4 2", "leg 1 Free", "retired 5 4 4 2", "leg 5 Free", "octets 0 0 0 0",
     ]
     found = replayed(program, plan, written(folder, "days.script", "\n".join(script) + "\n"))
@@ -124,7 +131,10 @@ def five_thousand_digits(folder, program):
     without R: digits are taken in order, a repeat and a gap are distinguished from them, and the counts at the end are
     those of all frames. The script has more than a million lines."""
     count = 5000
-    plan = written(folder, "digits.plan", plan_text([(LOOPBACK, 4569)], [("west", 5001, 0, 4), ("east", 5002, 0, 4)], "format = 4\nping_ms = 0"))
+    plan = written(
+        folder, "digits.plan",
+        plan_text([(LOOPBACK, 4569)], [("west", 5001, 0, 4), ("east", 5002, 0, 4)], "format = 4\nping_ms = 0"),
+    )
     script, wanted = [*CALL_UP], [*SAID_UP]
     for place in range(count):
         digit, moment = digit_kind(0x30 + place % 10), 20 * place
@@ -134,11 +144,19 @@ def five_thousand_digits(folder, program):
         wanted += [f"tx west {full(1, 7, moment, 2, 2 + place, ACK)}", f"tx east {full(5, 9, moment, 1 + place, 2, digit)}"]
     last = count + 1
     # A repeat of the last digit, a frame after the next one, and the next one, which hangs up.
-    script += [f"rx west {full(7, 1, 7, last - 1, 2, digit_kind(0x39))}", f"rx west {full(7, 1, 8, last + 1, 2, digit_kind(0x30))}"]
+    script += [
+        f"rx west {full(7, 1, 7, last - 1, 2, digit_kind(0x39))}", f"rx west {full(7, 1, 8, last + 1, 2, digit_kind(0x30))}"
+    ]
     script += [f"rx west {full(7, 1, 9, last, 2, HANGUP)}"]
     script += [f"rx east {full(9, 5, 13, 2, last + 1, ACK)}", "settle"]
-    wanted += [f"tx west {full(1, 7, 7, 2, last, ACK)}", f"tx west {full(1, 7, 8, 2, last, VNAK)}", f"tx west {full(1, 7, 9, 2, last + 1, ACK)}"]
-    wanted += [f"tx east {full(5, 9, 20 * (count - 1), last, 2, HANGUP, CAUSE_16)}", f"retired 1 2 2 {count + 2}", "leg 1 Free", "leg 5 Closing"]
+    wanted += [
+        f"tx west {full(1, 7, 7, 2, last, ACK)}", f"tx west {full(1, 7, 8, 2, last, VNAK)}",
+        f"tx west {full(1, 7, 9, 2, last + 1, ACK)}",
+    ]
+    wanted += [
+        f"tx east {full(5, 9, 20 * (count - 1), last, 2, HANGUP, CAUSE_16)}", f"retired 1 2 2 {count + 2}", "leg 1 Free",
+        "leg 5 Closing",
+    ]
     wanted += [f"retired 5 {count + 2} {count + 2} 2", "leg 5 Free", "octets 0 0 0 0"]
     found = replayed(program, plan, written(folder, "digits.script", "\n".join(script) + "\n"))
     frames = [FullFrame.read(bytes.fromhex(line.split()[2])) for line in found if line.startswith("tx east ")]
@@ -209,7 +227,10 @@ def many_routes(folder, program, count):
     same(f"calls by {count} routes", calls, [it for it in wanted if it[1]])
     same("calls without a route", sum(frame.kind == REJECT for frame, _ in frames), sum(it[1] is None for it in wanted))
     same("peers that are called", len({it[1] for it in wanted if it[1]}) > 20, True)
-    same("routes that lead back are skipped, or taken by a source", (len(skipped) > 5, names[0] in dict(wanted).values()), (True, True))
+    same(
+        "routes that lead back are skipped, or taken by a source", (len(skipped) > 5, names[0] in dict(wanted).values()),
+        (True, True),
+    )
     return count
 
 
@@ -221,4 +242,7 @@ def all_of(folder, program):
     ends = all_end_at_once(folder, program)
     a_fault_past_a_million_lines(folder, program)
     routes = [many_routes(folder, program, it) for it in (300, 5000)]
-    return f"{late} scenes late, a call of fifty days, {digits} digits in a million lines, {ends} legs that end at one tick, {routes[0]} and {routes[1]} routes"
+    return (
+        f"{late} scenes late, a call of fifty days, {digits} digits in a million lines, {ends} legs that end at one tick, "
+        f"{routes[0]} and {routes[1]} routes"
+    )

@@ -24,7 +24,8 @@ void *memcpy(void *to, const void *from, size_t length) {
 }
 
 void *memmove(void *to, const void *from, size_t length) {
-    if ((const char *)to <= (const char *)from || (const char *)to >= (const char *)from + length) return memcpy(to, from, length);
+    const char *target = to, *source = from;
+    if (target <= source || target >= source + length) return memcpy(to, from, length);
     count(length);
     for (size_t i = length; i > 0; i--) ((volatile char *)to)[i - 1] = ((const char *)from)[i - 1];
     return to;

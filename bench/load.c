@@ -97,7 +97,8 @@ static int bound(int port) {
 static void put16(unsigned char *at, unsigned n) { at[0] = (unsigned char)(n >> 8), at[1] = (unsigned char)n; }
 
 // Sends a full frame ("Full Frames").
-static void send_full(struct peer *peer, int place, unsigned ts, int numbered, int type, int subclass, const void *data, size_t len) {
+static void send_full(struct peer *peer, int place, unsigned ts, int numbered, int type, int subclass, const void *data,
+                      size_t len) {
     struct leg *leg = &peer->legs[place];
     unsigned char frame[FULL + 256];
     put16(frame, 0x8000u | (unsigned)(place + 1));
@@ -420,7 +421,10 @@ int main(int count, char **words) {
         carry(seconds);
         carried = carried_by_all(first, sites) - carried;
         used = seconds_of(processor) - used, from = seconds_of(CLOCK_MONOTONIC) - from;
-        printf("%s %d calls: %lu frames in %.2f s, %.2f s of processor time: %.0f frames per second of processor time; set-up %.1f us a call; %lu frames in all; %ld KB\n", words[1], calls, carried, from, used, used > 0 ? (double)carried / used : 0, setting_up / calls * 1e6, carried_by_all(first, sites), peak_of(command));
+        printf("%s %d calls: %lu frames in %.2f s, %.2f s of processor time: ", words[1], calls, carried, from, used);
+        printf("%.0f frames per second of processor time; ", used > 0 ? (double)carried / used : 0);
+        printf("set-up %.1f us a call; %lu frames in all; %ld KB\n", setting_up / calls * 1e6, carried_by_all(first, sites),
+               peak_of(command));
     }
     kill(command, SIGTERM);
     waitpid(command, 0, 0);

@@ -1,11 +1,11 @@
-// Sends the media of calls as peers do: a frame of each call every 20 ms. The frames of all calls go together, a gap apart, or spread over
-// the time; as mini frames, or packed into trunk frames as an Asterisk packs them. Prints what the other peers received, as one line of
-// JSON.
+// Sends the media of calls as peers do: a frame of each call every 20 ms. The frames of all calls go together, a gap apart, or
+// spread over the time; as mini frames, or packed into trunk frames as an Asterisk packs them. Prints what the other peers
+// received, as one line of JSON.
 //
 // paced peer=PORT:EXCHANGE_PORT:PREFIX .. pair=FROM:TO:CALLS .. [NAME=VALUE ..]
 //
-// Peers are counted from 0. The first peer of a pair places its calls. All calls are set up before media goes out, with the first voice
-// full frame each way.
+// Peers are counted from 0. The first peer of a pair places its calls. All calls are set up before media goes out, with the
+// first voice full frame each way.
 //
 //   seconds=S    how long media is sent, 2 without it
 //   trunk=1      peers send trunk frames, of `mtu` octets at most (1240); 2: with a timestamp in each entry; 0: mini frames
@@ -55,20 +55,10 @@ static unsigned *ends_of[MOST_PEERS], end_counts[MOST_PEERS];
 static struct parcel *parcels;
 static unsigned parcel_count;
 
-void stop(const char *why) {
-    fprintf(stderr, "paced: %s\n", why);
-    exit(2);
-}
-
 static void add_peer(char *text) {
     if (peer_count == MOST_PEERS) stop("too many peers");
-    struct peer *peer = &peers[peer_count];
-    char *port = strtok(text, ":"), *exchange = strtok(NULL, ":");
-    peer->prefix = strtok(NULL, ":");
-    if (!peer->prefix) stop("a peer is PORT:EXCHANGE_PORT:PREFIX");
-    peer->wire = wire_of((unsigned)atoi(port), (unsigned)atoi(exchange));
-    if (peer->wire < 0) stop("a port can't be had");
-    peer->place = peer_count++;
+    if (!read_peer(&peers[peer_count], peer_count, text)) stop("a peer is PORT:EXCHANGE_PORT:PREFIX");
+    if (peers[peer_count++].wire < 0) stop("a port can't be had");
 }
 
 static void add_pair(const char *text) {
@@ -76,38 +66,29 @@ static void add_pair(const char *text) {
     if (sscanf(text, "%d:%d:%d", &from, &to, &count) != 3) stop("a pair is FROM:TO:CALLS");
     if (from < 0 || to < 0 || from >= peer_count || to >= peer_count) stop("a pair of no peers");
     if (count < 0 || call_count + count > MOST_CALLS) stop("too many calls");
-    for (; count > 0; count--, call_count++) calls[call_count] = (struct call){.place = call_count, .from = &peers[from], .to = &peers[to]};
+    for (; count > 0; count--, call_count++)
+        calls[call_count] = (struct call){.place = call_count, .from = &peers[from], .to = &peers[to]};
 }
 
-static void set_number(const char *name, const char *value) {
-    const struct {
-        const char *name;
-        unsigned *at;
-    } all[] = {{"trunk", &wanted.trunk}, {"octets", &wanted.octets}, {"every_ms", &wanted.every_ms}, {"ways", &wanted.ways},
-               {"relay", &wanted.relay}, {"retry_ms", &wanted.retry_ms}, {"mtu", &wanted.mtu}, {"each", &wanted.each}};
-    for (unsigned place = 0; place < sizeof all / sizeof all[0]; place++)
-        if (strcmp(all[place].name, name) == 0) {
-            *all[place].at = (unsigned)strtoul(value, NULL, 10);
-            return;
-        }
-    if (strcmp(name, "seconds") == 0) wanted.seconds = atof(value);
+static void set_word(const char *name, char *value) {
+    const struct number all[] = {{"trunk", &wanted.trunk}, {"octets", &wanted.octets},     {"every_ms", &wanted.every_ms},
+                                 {"ways", &wanted.ways},   {"relay", &wanted.relay},       {"retry_ms", &wanted.retry_ms},
+                                 {"mtu", &wanted.mtu},     {"each", &wanted.each}};
+    if (set_one(all, sizeof all / sizeof all[0], name, value)) return;
+    if (strcmp(name, "peer") == 0) add_peer(value);
+    else if (strcmp(name, "pair") == 0) add_pair(value);
+    else if (strcmp(name, "seconds") == 0) wanted.seconds = atof(value);
     else if (strcmp(name, "gap_us") == 0) wanted.gap_us = atof(value);
     else if (strcmp(name, "patience") == 0) wanted.patience = atof(value);
     else if (strcmp(name, "process") == 0) wanted.process = atoi(value);
     else stop(name);
 }
 
-static void read_words(int count, char **words) {
-    for (int place = 1; place < count; place++) {
-        char *value = strchr(words[place], '=');
-        if (!value) stop(words[place]);
-        *value++ = 0;
-        if (strcmp(words[place], "peer") == 0) add_peer(value);
-        else if (strcmp(words[place], "pair") == 0) add_pair(value);
-        else set_number(words[place], value);
-    }
+static void read_parameters(int count, char **words) {
+    read_words(count, words, set_word);
     if (!call_count) stop("no call");
-    if (wanted.octets < STAMP || wanted.octets > MOST_MEDIA || !wanted.every_ms) stop("octets are 16 to 160, every_ms at least 1");
+    if (wanted.octets < STAMP || wanted.octets > MOST_MEDIA || !wanted.every_ms)
+        stop("octets are 16 to 160, every_ms at least 1");
     if (wanted.relay && (peer_count != 2 || wanted.trunk)) stop("a relay has two peers, and carries mini frames");
     if (wanted.mtu < TRUNK + 6 + wanted.octets || wanted.mtu > MOST_OCTETS) stop("mtu has room for a frame, and is 2048 at most");
 }
@@ -145,15 +126,15 @@ static void make_parcels(void) {
     for (unsigned sender = 0; sender < (unsigned)peer_count; sender++) {
         unsigned count = (end_counts[sender] + each - 1) / each;
         for (unsigned order = 0; order < count; order++) {
-            unsigned first = order * each, left = end_counts[sender] - first;
-            parcels[parcel_count++] = (struct parcel){due_of(order, count, sender), order, sender, first, left < each ? left : each};
+            unsigned first = order * each, left = end_counts[sender] - first, own = left < each ? left : each;
+            parcels[parcel_count++] = (struct parcel){due_of(order, count, sender), order, sender, first, own};
         }
     }
     qsort(parcels, parcel_count, sizeof *parcels, by_due);
 }
 
-// Writes the next frame of an end of a call. Returns false if the call is over, or if a full frame took it because its timestamp has a new
-// high half.
+// Writes the next frame of an end of a call. Returns false if the call is over, or if a full frame took it because its
+// timestamp has a new high half.
 static int write_media(unsigned end, unsigned char *media, unsigned *number, unsigned *timestamp) {
     struct call *call = &calls[end / 2];
     int side = (int)(end % 2);
@@ -193,7 +174,8 @@ static unsigned write_trunk(unsigned char *octets, const struct parcel *parcel) 
     memset(octets, 0, TRUNK);
     octets[2] = 1, octets[3] = wanted.trunk == 2;
     put16(octets + 4, timestamp >> 16), put16(octets + 6, timestamp);
-    for (unsigned place = 0; place < parcel->count; place++) length += write_entry(octets + length, ends_of[parcel->sender][parcel->first + place]);
+    const unsigned *ends = ends_of[parcel->sender] + parcel->first;
+    for (unsigned place = 0; place < parcel->count; place++) length += write_entry(octets + length, ends[place]);
     return length > TRUNK ? length : 0;
 }
 
@@ -206,7 +188,8 @@ static void send_parcels(const struct parcel *first, unsigned count) {
     memset(all, 0, sizeof all);
     for (unsigned place = 0; place < count; place++) {
         const struct parcel *parcel = first + place;
-        unsigned length = wanted.trunk ? write_trunk(octets[filled], parcel) : write_mini(octets[filled], ends_of[parcel->sender][parcel->first]);
+        unsigned end = ends_of[parcel->sender][parcel->first];
+        unsigned length = wanted.trunk ? write_trunk(octets[filled], parcel) : write_mini(octets[filled], end);
         if (!length) continue;
         parts[filled] = (struct iovec){octets[filled], length};
         all[filled].msg_hdr.msg_iov = &parts[filled], all[filled].msg_hdr.msg_iovlen = 1;
@@ -284,7 +267,7 @@ static void wait_for_the_rest(void) {
 int main(int count, char **words) {
     end_at_sigterm();
     prctl(PR_SET_TIMERSLACK, 1);
-    read_words(count, words);
+    read_parameters(count, words);
     if (!wanted.relay) set_up();
     make_parcels();
     send_media();

@@ -50,7 +50,6 @@ extern int peer_count, call_count;
 extern struct wanted wanted;
 extern struct seen seen;
 
-void stop(const char *why) __attribute__((noreturn));
 // The voice subclass of the calls' media.
 int format_of_calls(void);
 

@@ -144,25 +144,15 @@ static struct leg *offered(struct peer *peer, unsigned theirs, const unsigned ch
 }
 
 static void take_full(struct peer *peer, const unsigned char *frame, unsigned length, long long moment) {
-    unsigned theirs = get16(frame) & 0x7fff, number = get16(frame + 2) & 0x7fff;
-    int type = frame[10], subclass = frame[11];
-    struct leg *leg = NULL;
-    if (number) leg = number < NUMBERS ? peer->legs[number] : NULL;
-    else if (type == IAX && subclass == NEW) leg = offered(peer, theirs, frame + FULL, length - FULL);
+    unsigned theirs = get16(frame) & 0x7fff;
+    struct leg *leg = is_new(frame) ? offered(peer, theirs, frame + FULL, length - FULL) : leg_of(peer, frame);
     if (!leg || !leg->call) return;
-    if (type == IAX && subclass == INVAL) {
+    if (is_inval(frame)) {
         leg->oldest = leg->sent;
         if (!leg->is_dead) take_hangup(leg);
         return;
     }
-    if (leg->theirs && leg->theirs != theirs) return;
-    learn(leg, theirs);
-    acknowledge(leg, frame[9]);
-    if (type == IAX && subclass == VNAK) resend(leg);
-    if (type == IAX && (subclass == ACK || subclass == VNAK || subclass == TXCNT || subclass == TXACC)) return;
-    unsigned char ahead = (unsigned char)(frame[8] - leg->taken);
-    if (ahead == 0) take_frame(peer, leg, frame, length, moment);
-    else send_answer(leg, get16(frame + 4) << 16 | get16(frame + 6), ahead < 128 ? VNAK : ACK);
+    if (note_arrival(leg, frame) == EXPECTED) take_frame(peer, leg, frame, length, moment);
 }
 
 static void take_datagram(struct peer *peer, const unsigned char *octets, unsigned length, long long moment) {

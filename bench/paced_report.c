@@ -25,9 +25,11 @@ void report(void) {
             lossy++;
             if (lost > worst) worst = lost;
         }
-    printf("{\"calls\": %d, \"set_up\": %.3f, \"seconds\": %.3f, \"processor\": %.6f", call_count, seen.set_up, seen.sending, seen.processor);
+    printf("{\"calls\": %d, \"set_up\": %.3f, \"seconds\": %.3f, \"processor\": %.6f", call_count, seen.set_up, seen.sending,
+           seen.processor);
 #define TELL(name) printf(", \"%s\": %lu", #name, seen.name)
-    TELL(sent), TELL(taken), TELL(taken_in_time), TELL(twice), TELL(disordered), TELL(strange), TELL(unsent), TELL(turns), TELL(left_out), TELL(cut);
+    TELL(sent), TELL(taken), TELL(taken_in_time), TELL(twice), TELL(disordered), TELL(strange), TELL(unsent);
+    TELL(turns), TELL(left_out), TELL(cut);
     TELL(trunks_sent), TELL(trunks), TELL(entries), TELL(minis), TELL(voices), TELL(wire_octets);
     printf(", \"drops\": %u, \"lossy_ways\": %u, \"worst_loss\": %.5f", drops, lossy, worst);
     print_latencies(&seen.latencies);

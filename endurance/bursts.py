@@ -89,9 +89,14 @@ def plan_of_load(load, ports, keys):
 
 def paced_words(load, ports):
     own = ports[load.endpoints:]
-    words = [f"peer={own[place]}:{ports[place % load.workers % load.endpoints]}:{prefix_of(place)}" for place in range(load.talking())]
+    words = [
+        f"peer={own[place]}:{ports[place % load.workers % load.endpoints]}:{prefix_of(place)}" for place in range(load.talking())
+    ]
     words += [f"pair={one}:{other}:{count}" for one, other, count in load.pairs()]
-    how = {"octets": load.octets, "gap_us": load.gap_us, "every_ms": load.every_ms, "ways": load.ways, "trunk": KINDS[load.sends], "mtu": PEERS_MTU}
+    how = {
+        "octets": load.octets, "gap_us": load.gap_us, "every_ms": load.every_ms, "ways": load.ways, "trunk": KINDS[load.sends],
+        "mtu": PEERS_MTU,
+    }
     return words + [f"{name}={value}" for name, value in how.items()]
 
 
@@ -155,7 +160,10 @@ def tell_loss(report, what, load, seen):
     own["frames_lost_in_outboxes"] = lost_in_outboxes(seen)
     is_kept = seen["sent"] > 0 and lacking <= by_system + MOST_LOST and seen["accounts"]["dropped"] <= MOST_LOST * load.octets
     share = f"{lacking / max(1, seen['sent']):.3%}"
-    report.tell(f"{what}, no frame is lost but by full sockets", is_kept, sent=seen["sent"], lacking=lacking, that_is=share, **dropped, **own)
+    report.tell(
+        f"{what}, no frame is lost but by full sockets", is_kept, sent=seen["sent"], lacking=lacking, that_is=share, **dropped,
+        **own,
+    )
     wrong = {it: seen[it] for it in ("strange", "twice", "cut")}
     # A voice full frame, one in 65.5 s, may overtake media that waits for a trunk frame.
     is_kept = not any(wrong.values()) and seen["disordered"] <= seen["voices"]
@@ -168,11 +176,16 @@ def tell_packing(report, load, seen, is_full):
     as_minis = (seen["entries"] + seen["minis"]) * (HEADERS + MINI + load.octets)
     is_kept = seen["trunks"] > 0 == seen["minis"] and (entries >= LEAST_ENTRIES or not is_full)
     asked = f"at least {LEAST_ENTRIES}" if is_full else "any"
-    report.tell("media is packed into trunk frames", is_kept, f"{entries:.2f} entries a datagram, {asked}", octets=wire, as_mini_frames=as_minis)
+    report.tell(
+        "media is packed into trunk frames", is_kept, f"{entries:.2f} entries a datagram, {asked}", octets=wire,
+        as_mini_frames=as_minis,
+    )
 
 
 def tell_pace(report, what, seen):
-    times = ", ".join(f"{name} {seen[key] / 1000:.1f}" for name, key in (("p50", "p50_us"), ("p99", "p99_us"), ("p99.9", "p999_us")))
+    times = ", ".join(
+        f"{name} {seen[key] / 1000:.1f}" for name, key in (("p50", "p50_us"), ("p99", "p99_us"), ("p99.9", "p999_us"))
+    )
     report.note(f"{what}: {seen['turns']} bursts, {seen['left_out']} left out as the peers were late; latency in ms: {times}")
 
 

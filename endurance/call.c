@@ -39,7 +39,8 @@ static int digit_of(unsigned long id, int side, unsigned place) { return "012345
 // Writes the call, the place and the moment of sending; all other octets follow from these.
 static void write_media(unsigned char media[MEDIA], const struct call *call, int side, unsigned place, long long moment) {
     for (unsigned at = 0; at < MEDIA; at += 4) {
-        unsigned word = at == 0 ? (unsigned)call->id : at == 4 ? place : mixed(call->id, side, place + at) ^ (unsigned)(moment ^ moment >> 32);
+        unsigned word = mixed(call->id, side, place + at) ^ (unsigned)(moment ^ moment >> 32);
+        if (at < 8) word = at ? place : (unsigned)call->id;
         memcpy(media + at, &word, 4);
     }
     memcpy(media + MOMENT, &moment, sizeof moment);
@@ -101,7 +102,8 @@ void place_call(struct peer *from, struct peer *to) {
 
 static void send_digits(struct call *call, int side, double moment) {
     if (is_closing || moment < call->digit_due[side]) return;
-    while (call->digits_sent[side] < wanted.digits && call->digits_sent[side] - call->digits_taken[1 - side] < wanted.on_the_way) {
+    while (call->digits_sent[side] < wanted.digits &&
+           call->digits_sent[side] - call->digits_taken[1 - side] < wanted.on_the_way) {
         int digit = digit_of(call->id, side, call->digits_sent[side]);
         if (!send_numbered(call->ends[side], timestamp_of(call->ends[side]), DTMF, digit, NULL, 0)) return;
         call->digits_sent[side]++, seen.digits_sent++;
@@ -127,7 +129,8 @@ static void send_media(struct call *call, int side) {
 
 static int all_digits_taken(const struct call *call) {
     for (int side = 0; side < 2; side++)
-        if ((!is_closing && call->digits_sent[side] < wanted.digits) || call->digits_taken[1 - side] < call->digits_sent[side]) return 0;
+        if ((!is_closing && call->digits_sent[side] < wanted.digits) || call->digits_taken[1 - side] < call->digits_sent[side])
+            return 0;
     return 1;
 }
 
@@ -238,7 +241,9 @@ static void digest_of(const struct leg *leg, const unsigned char *challenge, uns
     md5_digits(text, size + length, digits);
 }
 
-static void challenge_of(const struct leg *leg, char challenge[9]) { snprintf(challenge, 9, "%08x", mixed(leg->call->id, 1, 1 << 21)); }
+static void challenge_of(const struct leg *leg, char challenge[9]) {
+    snprintf(challenge, 9, "%08x", mixed(leg->call->id, 1, 1 << 21));
+}
 
 static void send_challenge(struct leg *leg, unsigned timestamp) {
     unsigned char data[32] = {AUTHMETHODS, 2, 0, 2, CHALLENGE, 8};
@@ -367,24 +372,16 @@ static void take_inval(struct leg *leg) {
 }
 
 static void take_full(struct peer *peer, const unsigned char *frame, unsigned length) {
-    unsigned theirs = get16(frame) & 0x7fff, number = get16(frame + 2) & 0x7fff;
-    int type = frame[10], subclass = frame[11];
-    struct leg *leg = NULL;
-    if (number) leg = number < NUMBERS ? peer->legs[number] : NULL;
-    else if (type == IAX && subclass == NEW) leg = offered(peer, theirs, frame + FULL, length - FULL);
+    unsigned theirs = get16(frame) & 0x7fff;
+    struct leg *leg = is_new(frame) ? offered(peer, theirs, frame + FULL, length - FULL) : leg_of(peer, frame);
     if (!leg || !leg->call) return;
-    if (type == IAX && subclass == INVAL) {
+    if (is_inval(frame)) {
         take_inval(leg);
         return;
     }
-    if (leg->theirs && leg->theirs != theirs) return;
-    learn(leg, theirs);
-    acknowledge(leg, frame[9]);
-    if (type == IAX && subclass == VNAK) resend(leg);
-    if (type == IAX && (subclass == ACK || subclass == VNAK || subclass == TXCNT || subclass == TXACC)) return;
-    unsigned char ahead = (unsigned char)(frame[8] - leg->taken);
-    if (ahead == 0) take_frame(leg, frame, length);
-    else send_answer(leg, get16(frame + 4) << 16 | get16(frame + 6), ahead < 128 ? VNAK : ACK);
+    enum arrival arrival = note_arrival(leg, frame);
+    if (arrival == ASIDE) return;
+    if (arrival == EXPECTED) take_frame(leg, frame, length);
     if (leg->call) step_call(leg->call, now());
 }
 

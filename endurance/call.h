@@ -33,7 +33,8 @@ struct wanted {
 struct seen {
     unsigned long placed, answered, ended, early, hung_up_by_caller, hung_up_by_called, challenged;
     unsigned long digits_sent, digits_taken, wrong_digits, lacking_digits, left_out_digits, media_sent, media_taken, wrong_media;
-    unsigned long hangups_twice, hangups_missing, hangups_back, offered_twice, misrouted, rejected, cut, inval, stuck, bad_answers;
+    unsigned long hangups_twice, hangups_missing, hangups_back, offered_twice, misrouted, rejected, cut, inval, stuck;
+    unsigned long bad_answers;
     // The moment at which the first call was answered, and the digits that had come by the end of the time, in seconds
     // since the start.
     double first_answer;

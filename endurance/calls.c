@@ -21,20 +21,10 @@ enum { PLACED_TOGETHER = 64, TICK_MS = 5 };
 static struct peer peers[MOST_PEERS];
 static int routes[MOST_ROUTES][2], peer_count, route_count;
 
-static void stop(const char *why) {
-    fprintf(stderr, "calls: %s\n", why);
-    exit(2);
-}
-
 static void add_peer(char *text) {
     if (peer_count == MOST_PEERS) stop("too many peers");
-    struct peer *peer = &peers[peer_count];
-    char *port = strtok(text, ":"), *exchange = strtok(NULL, ":");
-    peer->prefix = strtok(NULL, ":"), peer->secret = strtok(NULL, "");
-    if (!peer->prefix) stop("a peer is PORT:EXCHANGE_PORT:PREFIX[:SECRET]");
-    peer->wire = wire_of((unsigned)atoi(port), (unsigned)atoi(exchange));
-    if (peer->wire < 0) stop("a port can't be had");
-    peer->place = peer_count++;
+    if (!read_peer(&peers[peer_count], peer_count, text)) stop("a peer is PORT:EXCHANGE_PORT:PREFIX[:SECRET]");
+    if (peers[peer_count++].wire < 0) stop("a port can't be had");
 }
 
 static void add_route(const char *text) {
@@ -44,36 +34,26 @@ static void add_route(const char *text) {
     route_count++;
 }
 
-static void set_number(const char *name, const char *value) {
-    const struct {
-        const char *name;
-        unsigned *at;
-    } all[] = {
-        {"digits", &wanted.digits},     {"on_the_way", &wanted.on_the_way}, {"digit_ms", &wanted.digit_ms}, {"media_ms", &wanted.media_ms},
-        {"hold_ms", &wanted.hold_ms},   {"early", &wanted.early},           {"retry_ms", &wanted.retry_ms}, {"ping_ms", &wanted.ping_ms},
-        {"quiet_ms", &wanted.quiet_ms}, {"patience", &wanted.patience},     {"at_once", &wanted.at_once},   {"total", &wanted.total},
-        {"least", &wanted.least}};
-    for (unsigned place = 0; place < sizeof all / sizeof all[0]; place++)
-        if (strcmp(all[place].name, name) == 0) {
-            *all[place].at = (unsigned)strtoul(value, NULL, 10);
-            return;
-        }
-    if (strcmp(name, "rate") == 0) wanted.rate = atof(value);
+static void set_word(const char *name, char *value) {
+    const struct number all[] = {{"digits", &wanted.digits},     {"on_the_way", &wanted.on_the_way},
+                                 {"digit_ms", &wanted.digit_ms}, {"media_ms", &wanted.media_ms},
+                                 {"hold_ms", &wanted.hold_ms},   {"early", &wanted.early},
+                                 {"retry_ms", &wanted.retry_ms}, {"ping_ms", &wanted.ping_ms},
+                                 {"quiet_ms", &wanted.quiet_ms}, {"patience", &wanted.patience},
+                                 {"at_once", &wanted.at_once},   {"total", &wanted.total},
+                                 {"least", &wanted.least}};
+    if (set_one(all, sizeof all / sizeof all[0], name, value)) return;
+    if (strcmp(name, "peer") == 0) add_peer(value);
+    else if (strcmp(name, "route") == 0) add_route(value);
+    else if (strcmp(name, "rate") == 0) wanted.rate = atof(value);
     else if (strcmp(name, "seconds") == 0) wanted.seconds = atof(value);
     else if (strcmp(name, "seed") == 0) wanted.seed = strtoul(value, NULL, 10);
     else stop(name);
 }
 
-static void read_words(int count, char **words) {
+static void read_parameters(int count, char **words) {
     wanted = (struct wanted){.on_the_way = 10, .retry_ms = 200, .quiet_ms = 300, .patience = 60, .at_once = 32};
-    for (int place = 1; place < count; place++) {
-        char *value = strchr(words[place], '=');
-        if (!value) stop(words[place]);
-        *value++ = 0;
-        if (strcmp(words[place], "peer") == 0) add_peer(value);
-        else if (strcmp(words[place], "route") == 0) add_route(value);
-        else set_number(words[place], value);
-    }
+    read_words(count, words, set_word);
     if (!route_count) stop("no route");
 }
 
@@ -124,12 +104,14 @@ static void report(double begun) {
         received += peers[place].received, sent += peers[place].sent, resent += peers[place].resent;
         inval += peers[place].inval, drops += drops_of(&peers[place]);
     }
-    printf("{\"seconds\": %.3f, \"received\": %lu, \"sent\": %lu, \"resent\": %lu, \"invals\": %lu, \"drops\": %lu", now() - begun,
-           received, sent, resent, inval, drops);
+    printf("{\"seconds\": %.3f, \"received\": %lu, \"sent\": %lu, \"resent\": %lu, \"invals\": %lu, \"drops\": %lu",
+           now() - begun, received, sent, resent, inval, drops);
 #define TELL(name) printf(", \"%s\": %lu", #name, seen.name)
     TELL(placed), TELL(answered), TELL(ended), TELL(early), TELL(hung_up_by_caller), TELL(hung_up_by_called), TELL(challenged);
-    TELL(digits_sent), TELL(digits_taken), TELL(wrong_digits), TELL(lacking_digits), TELL(left_out_digits), TELL(media_sent), TELL(media_taken), TELL(wrong_media);
-    TELL(hangups_twice), TELL(hangups_missing), TELL(hangups_back), TELL(offered_twice), TELL(misrouted), TELL(rejected), TELL(cut);
+    TELL(digits_sent), TELL(digits_taken), TELL(wrong_digits), TELL(lacking_digits), TELL(left_out_digits);
+    TELL(media_sent), TELL(media_taken), TELL(wrong_media);
+    TELL(hangups_twice), TELL(hangups_missing), TELL(hangups_back), TELL(offered_twice), TELL(misrouted);
+    TELL(rejected), TELL(cut);
     TELL(inval), TELL(stuck), TELL(bad_answers), TELL(digits_in_time);
     print_latencies(&seen.latencies);
     printf(", \"last_stuck_stage\": %.0f, \"first_answer\": %.3f", seen.last_stuck_stage,
@@ -142,7 +124,7 @@ static void report(double begun) {
 
 int main(int count, char **words) {
     end_at_sigterm();
-    read_words(count, words);
+    read_parameters(count, words);
     double begun = now();
     run();
     report(begun);

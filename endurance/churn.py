@@ -69,7 +69,9 @@ def load_words(ports):
 
 
 def a_run(tools, ports, seconds, **load):
-    return tools.start("calls", *load_words(ports), seconds=seconds, at_once=AT_ONCE, digits=DIGITS, retry_ms=1000, patience=PATIENCE, **load)
+    return tools.start(
+        "calls", *load_words(ports), seconds=seconds, at_once=AT_ONCE, digits=DIGITS, retry_ms=1000, patience=PATIENCE, **load
+    )
 
 
 class Look(namedtuple("Look", "elapsed resident held blocks")):
@@ -150,7 +152,10 @@ def tell_rest(report, before, after):
 def tell_records(report, records, seen, warming):
     placed = seen["placed"] + warming["placed"]
     is_whole = records.rows == 2 * placed and not records.halves
-    report.tell("each leg has its row in the call records", is_whole, rows=records.rows, calls=placed, rows_without_their_other=len(records.halves))
+    report.tell(
+        "each leg has its row in the call records", is_whole, rows=records.rows, calls=placed,
+        rows_without_their_other=len(records.halves),
+    )
     digits = (seen["digits_sent"] + warming["digits_sent"], seen["digits_taken"] + warming["digits_taken"])
     adds_up = not records.faults and (records.taken, records.sent) == digits
     wrong = {"wrong_rows": len(records.faults), "first": records.faults[:1]}
@@ -188,7 +193,10 @@ def run(tools, report, seconds, seed):
     report.note(f"the exchange set up and ended {2 * rate:.0f} calls a second, and half of that was asked for")
     tell_calls(report, seen)
     is_challenged = seen["challenged"] == 2 * seen["placed"] and not seen["bad_answers"]
-    report.tell("each call was challenged twice, and the answers were right", is_challenged, challenged=seen["challenged"], bad_answers=seen["bad_answers"])
+    report.tell(
+        "each call was challenged twice, and the answers were right", is_challenged, challenged=seen["challenged"],
+        bad_answers=seen["bad_answers"],
+    )
     looks.tell(report, lasts)
     tell_rest(report, before, after)
     tell_records(report, records, seen, warming)

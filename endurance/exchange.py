@@ -210,7 +210,10 @@ def tell_accounts(report, what, status, lines, least=1):
     """Reports whether the program ended well, with accounts that balance over at least `least` octets."""
     octets = accounts_of(lines)
     is_kept = status == 0 and octets is not None and octets[0] == sum(octets[1:]) and octets[0] >= least
-    report.tell(f"the accounts of {what} balance", is_kept, f"status {status}", "octets accepted, packed, queued, dropped", *(octets or [lines]))
+    report.tell(
+        f"the accounts of {what} balance", is_kept, f"status {status}", "octets accepted, packed, queued, dropped",
+        *(octets or [lines]),
+    )
 
 
 def rows_of(path):

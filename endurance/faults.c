@@ -58,7 +58,9 @@ static int is_disk_full(int file) {
     return 1;
 }
 
-ssize_t write(int file, const void *octets, size_t length) { return is_disk_full(file) ? -1 : syscall(SYS_write, file, octets, length); }
+ssize_t write(int file, const void *octets, size_t length) {
+    return is_disk_full(file) ? -1 : syscall(SYS_write, file, octets, length);
+}
 
 ssize_t writev(int file, const struct iovec *parts, int count_of_parts) {
     return is_disk_full(file) ? -1 : syscall(SYS_writev, file, parts, count_of_parts);

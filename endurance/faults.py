@@ -39,7 +39,9 @@ class Faulty:
         self.folder = tools.folder_of(f"faults_{name}")
         self.page = Page(f"{self.folder}/page")
         worker, west, east = spare_ports(3)
-        peers = {"west": {"port": west, "numbers": 64, "user": "west", "secret": "of the west"}, "east": {"port": east, "numbers": 64}}
+        peers = {
+            "west": {"port": west, "numbers": 64, "user": "west", "secret": "of the west"}, "east": {"port": east, "numbers": 64}
+        }
         environment = {"FAULTS": f"{self.folder}/page", "LD_PRELOAD": tools.built("faults.so")}
         plan = plan_of([worker], peers, {"1": "west", "2": "east"}, retry_ms=300)
         self.exchange = Exchange(self.folder, plan, "--calls", f"{self.folder}/calls.csv", *options, environment=environment)
@@ -89,7 +91,9 @@ def full_disk(tools, report, lasts, seed):
     finally:
         faulty.kill()
     refused = faulty.page.count(DISK)
-    report.tell("a full disk: rows wait for it", refused > 0 and waiting > 0, writes_that_failed=refused, rows_that_waited=waiting)
+    report.tell(
+        "a full disk: rows wait for it", refused > 0 and waiting > 0, writes_that_failed=refused, rows_that_waited=waiting
+    )
     rows = len(rows_of(f"{faulty.folder}/calls.csv"))
     is_whole = rows == 2 * seen["placed"] and metrics["iax_call_records_lost_total"] == 0
     report.tell("a full disk: each leg has its row once there is room", is_whole, rows=rows, calls=seen["placed"])
@@ -117,9 +121,13 @@ def jumping_clocks(tools, report, lasts, seed):
     report.tell("clocks that jump: they were looked at", jumped > 0, looks=jumped)
     rows = rows_of(f"{faulty.folder}/calls.csv")
     late = [row for row in rows if row["answered_at_ms"] and int(row["opened_ms"]) > PAST_32_BITS]
-    report.tell("clocks that jump: calls are answered past 2^32 milliseconds", len(late) > 0, rows=len(rows), answered_late=len(late))
+    report.tell(
+        "clocks that jump: calls are answered past 2^32 milliseconds", len(late) > 0, rows=len(rows), answered_late=len(late)
+    )
     wrong = [row for row in rows if not is_told_by_one_clock(row)]
-    report.tell("clocks that jump: a row's dates are as far apart as its milliseconds", not wrong, wrong_rows=len(wrong), first=wrong[:1])
+    report.tell(
+        "clocks that jump: a row's dates are as far apart as its milliseconds", not wrong, wrong_rows=len(wrong), first=wrong[:1]
+    )
     tell_calls(report, seen)
     tell_accounts(report, "the exchange with clocks that jump", status, lines)
 
@@ -141,7 +149,9 @@ def failing_sends(tools, report, lasts, seed):
         faulty.kill()
     lost = sum(value for name, value in metrics.items() if name.startswith("iax_datagrams_lost_total"))
     refused = faulty.page.count(SENDS)
-    report.tell("sends that fail: each is a lost datagram, and counted", lost >= refused > 0, sends_that_failed=refused, lost=lost)
+    report.tell(
+        "sends that fail: each is a lost datagram, and counted", lost >= refused > 0, sends_that_failed=refused, lost=lost
+    )
     tell_calls(report, seen)
     tell_accounts(report, "the exchange whose sends failed", status, lines)
 
@@ -161,7 +171,10 @@ def no_memory(tools, report, lasts, seed):
             tell_memory_again(report, faulty)
         else:
             status, lines = faulty.exchange.printed()
-            report.tell("no memory: the exchange ends by name", (status, lines[-1:]) == (1, ["refused Memory"]), f"status {status}", lines[-1:])
+            report.tell(
+                "no memory: the exchange ends by name", (status, lines[-1:]) == (1, ["refused Memory"]), f"status {status}",
+                lines[-1:],
+            )
     finally:
         faulty.kill()
 

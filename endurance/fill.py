@@ -106,9 +106,12 @@ def run(tools, report, seconds, seed):
         "east": {"port": ports["east"]},
     }
     folder = tools.folder_of("fill")
-    plan = plan_of([ports["worker"]], peers, {"8": "east"}, format=4, challenge_ms=1000 if seconds is None else None, retry_ms=500)
+    plan = plan_of(
+        [ports["worker"]], peers, {"8": "east"}, format=4, challenge_ms=1000 if seconds is None else None, retry_ms=500
+    )
     exchange = Exchange(folder, plan, "--calls", f"{folder}/calls.csv")
-    filler, west, east = Filler(ports["worker"], ports["filler"]), Peer(ports["worker"], ports["west"]), Peer(ports["worker"], ports["east"])
+    filler = Filler(ports["worker"], ports["filler"])
+    west, east = Peer(ports["worker"], ports["west"]), Peer(ports["worker"], ports["east"])
     try:
         before = exchange.kilobytes()
         most = filler.run(exchange, lasts)
@@ -122,7 +125,10 @@ def run(tools, report, seconds, seed):
             it.close()
         exchange.kill()
     endings = Counter(it["ending"] for it in rows_of(f"{folder}/calls.csv") if it["peer"] == "filler")
-    report.tell("what isn't authenticated holds little", most < MOST, kilobytes_before=before, at_most=most, after=after, calls=filler.count["challenges"], frames=filler.count["sent"])
+    report.tell(
+        "what isn't authenticated holds little", most < MOST, kilobytes_before=before, at_most=most, after=after,
+        calls=filler.count["challenges"], frames=filler.count["sent"],
+    )
     report.tell("full frames beyond the bound are refused by name", refused > 0, RecordFull=refused)
     is_told = endings["record_full"] > 0 and set(endings) <= {"record_full", "challenge_timeout", "retries_spent"}
     report.tell("the records say why such legs end", is_told, **endings)

@@ -132,9 +132,10 @@ int main(int count, char **words) {
     from = (unsigned)atoi(word_of(count, words, "from", "0"));
     wire = wire_of(from, port);
     if (wire < 0) return 2;
-    flood(port, strtoul(word_of(count, words, "count", "100000"), NULL, 10), now() + atof(word_of(count, words, "seconds", "10")));
-    printf("{\"sent\": %lu, \"heard\": %lu, \"bursts\": %lu, \"long_bursts\": %lu, \"mutated\": %lu, \"cut\": %lu", sent, heard, bursts,
-           long_bursts, mutated, cut);
+    double end = now() + atof(word_of(count, words, "seconds", "10"));
+    flood(port, strtoul(word_of(count, words, "count", "100000"), NULL, 10), end);
+    printf("{\"sent\": %lu, \"heard\": %lu, \"bursts\": %lu, \"long_bursts\": %lu, \"mutated\": %lu, \"cut\": %lu", sent, heard,
+           bursts, long_bursts, mutated, cut);
     for (int kind = 0; kind < KINDS; kind++) printf(", \"%s\": %lu", names[kind], counts[kind]);
     printf("}\n");
     return 0;

@@ -27,7 +27,10 @@ def start_floods(tools, ports, count, burst, seconds, seed):
     """Starts the flood of the peer at its worker, and that of a stranger at each worker. Returns their programs."""
     floods = [("flood", "worker1"), ("stranger0", "worker0"), ("stranger1", "worker1")]
     return [
-        tools.start("flood", f"from={ports[name]}", f"to={ports[worker]}", count=count, seconds=seconds, prefix=FLOOD, long_burst=burst, seed=seed + place)
+        tools.start(
+            "flood", f"from={ports[name]}", f"to={ports[worker]}", count=count, seconds=seconds, prefix=FLOOD, long_burst=burst,
+            seed=seed + place,
+        )
         for place, (name, worker) in enumerate(floods)
     ]
 
@@ -39,13 +42,18 @@ def tell_flood(report, sent, metrics):
     bursts = sum(it["long_bursts"] for it in sent)
     is_a_flood = received > 0 and min(kinds.values()) > 0
     report.tell("the exchange took a flood", is_a_flood, datagrams=total, of_these_received=received, long_bursts=bursts, **kinds)
-    refused = {name.split('refusal="')[1].split('"')[0]: value for name, value in metrics.items() if 'peer="flood",refusal="' in name and value}
+    refused = {
+        name.split('refusal="')[1].split('"')[0]: value
+        for name, value in metrics.items() if 'peer="flood",refusal="' in name and value
+    }
     report.tell("what is no frame of a call is refused by name", REFUSALS <= set(refused), **refused)
 
 
 def tell_lost_media(report, seen, dropped):
     lacking = seen["media_sent"] - seen["media_taken"]
-    report.tell("media lacks only where a full socket dropped it", 0 <= lacking <= sum(dropped.values()), lacking=lacking, **dropped)
+    report.tell(
+        "media lacks only where a full socket dropped it", 0 <= lacking <= sum(dropped.values()), lacking=lacking, **dropped
+    )
 
 
 def run(tools, report, seconds, seed):
@@ -57,7 +65,9 @@ def run(tools, report, seconds, seed):
     try:
         peers = [f"peer={ports['west']}:{ports['worker0']}:{WEST}:of the west", f"peer={ports['east']}:{ports['worker0']}:{EAST}"]
         talk = {"digits": 20, "digit_ms": 20, "media_ms": 60, "hold_ms": 500, "retry_ms": 500, "patience": PATIENCE}
-        calls = tools.start("calls", *peers, "route=0:1", "route=1:0", seconds=lasts, at_once=max(2, tools.some(8)), **talk, seed=seed)
+        calls = tools.start(
+            "calls", *peers, "route=0:1", "route=1:0", seconds=lasts, at_once=max(2, tools.some(8)), **talk, seed=seed
+        )
         floods = start_floods(tools, ports, count, burst, lasts, seed)
         sent = [reported(it, lasts + PATIENCE) for it in floods]
         seen = reported(calls, lasts + 2 * PATIENCE)

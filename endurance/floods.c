@@ -196,7 +196,8 @@ int main(int count, char **words) {
     to = (unsigned)atoi(word_of(count, words, "to", "0")), from = (unsigned)atoi(word_of(count, words, "from", "0"));
     end_at_sigterm();
     set_seed(word_of(count, words, "seed", "1"));
-    wanted = (struct wanted){.on_the_way = HELD, .retry_ms = 200, .media_ms = 1u << 31, .hold_ms = 1u << 31, .patience = 1u << 31};
+    wanted = (struct wanted){.on_the_way = HELD, .retry_ms = 200};
+    wanted.media_ms = wanted.hold_ms = wanted.patience = 1u << 31;
     if (kind && kind->write == write_vnak) wanted.digits = HELD;
     // Calls of an earlier kind may still be up, so each kind has its own call numbers.
     if (kind) peers[0].next = peers[1].next = NUMBERS / (sizeof kinds / sizeof kinds[0]) * (unsigned)(kind - kinds);
@@ -206,6 +207,7 @@ int main(int count, char **words) {
     if (!kind || peers[0].wire < 0 || peers[1].wire < 0) return 2;
     double begun = now();
     flood(kind, atof(word_of(count, words, "rate", "0")));
-    printf("{\"seconds\": %.3f, \"sent\": %lu, \"heard\": %lu, \"calls\": %lu, \"bursts\": %lu, \"waits\": %lu}\n", now() - begun, sent, heard, set_ups, bursts, waits);
+    printf("{\"seconds\": %.3f, \"sent\": %lu, \"heard\": %lu, \"calls\": %lu, \"bursts\": %lu, \"waits\": %lu}\n", now() - begun,
+           sent, heard, set_ups, bursts, waits);
     return 0;
 }

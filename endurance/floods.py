@@ -85,7 +85,9 @@ class Place:
         }
         peers = {it: {"port": self.ports[it], "numbers": 512} | keys.get(it, {}) for it in (*self.CALLS, *self.OTHERS)}
         # The exchange sends no PING, so it answers those of a flood one by one.
-        plan = plan_of([self.ports["worker"]], peers, {WEST: "west", EAST: "east", FAR: "far"}, format=4, ping_ms=0, retry_ms=1000)
+        plan = plan_of(
+            [self.ports["worker"]], peers, {WEST: "west", EAST: "east", FAR: "far"}, format=4, ping_ms=0, retry_ms=1000
+        )
         self.exchange, self.started = Exchange(tools.folder_of("floods"), plan), []
 
     def start(self, name, *words, **named):
@@ -122,7 +124,9 @@ class Place:
 def row_of(seen):
     """Returns the row of the calls' results."""
     times = {name: round(seen[it] / 1000, 2) for name, it in LATENCIES.items()}
-    return {"frames": seen["media_taken"], "lacking": seen["media_sent"] - seen["media_taken"], "digits": seen["digits_taken"]} | times
+    return {
+        "frames": seen["media_taken"], "lacking": seen["media_sent"] - seen["media_taken"], "digits": seen["digits_taken"]
+    } | times
 
 
 def alone(place, lasts, seed):

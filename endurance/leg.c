@@ -51,8 +51,8 @@ void send_octets(struct peer *peer, const void *octets, unsigned length) {
     peer->sent++;
 }
 
-unsigned write_head(unsigned char *octets, unsigned source, unsigned destination, unsigned timestamp, unsigned oseq, unsigned iseq, int type,
-                    int subclass) {
+unsigned write_head(unsigned char *octets, unsigned source, unsigned destination, unsigned timestamp, unsigned oseq,
+                    unsigned iseq, int type, int subclass) {
     put16(octets, 0x8000u | source), put16(octets + 2, destination);
     put16(octets + 4, timestamp >> 16), put16(octets + 6, timestamp);
     octets[8] = (unsigned char)oseq, octets[9] = (unsigned char)iseq;
@@ -60,8 +60,8 @@ unsigned write_head(unsigned char *octets, unsigned source, unsigned destination
     return FULL;
 }
 
-static unsigned write_full(unsigned char *octets, const struct leg *leg, unsigned timestamp, int type, int subclass, const void *data,
-                           unsigned length) {
+static unsigned write_full(unsigned char *octets, const struct leg *leg, unsigned timestamp, int type, int subclass,
+                           const void *data, unsigned length) {
     write_head(octets, leg->number, leg->theirs, timestamp, leg->sent, leg->taken, type, subclass);
     if (length) memcpy(octets + FULL, data, length);
     return FULL + length;
@@ -96,6 +96,29 @@ void resend(struct leg *leg) {
 void acknowledge(struct leg *leg, unsigned next) {
     unsigned char counts = (unsigned char)(next - leg->oldest);
     if (counts && counts <= held_frames(leg)) leg->oldest = (unsigned char)next, leg->last_sent = now();
+}
+
+int is_new(const unsigned char *frame) { return !(get16(frame + 2) & 0x7fff) && frame[10] == IAX && frame[11] == NEW; }
+
+int is_inval(const unsigned char *frame) { return frame[10] == IAX && frame[11] == INVAL; }
+
+struct leg *leg_of(const struct peer *peer, const unsigned char *frame) {
+    unsigned number = get16(frame + 2) & 0x7fff;
+    return number && number < NUMBERS ? peer->legs[number] : NULL;
+}
+
+enum arrival note_arrival(struct leg *leg, const unsigned char *frame) {
+    unsigned theirs = get16(frame) & 0x7fff;
+    int type = frame[10], subclass = frame[11];
+    if (leg->theirs && leg->theirs != theirs) return ASIDE;
+    learn(leg, theirs);
+    acknowledge(leg, frame[9]);
+    if (type == IAX && subclass == VNAK) resend(leg);
+    if (type == IAX && (subclass == ACK || subclass == VNAK || subclass == TXCNT || subclass == TXACC)) return ASIDE;
+    unsigned char ahead = (unsigned char)(frame[8] - leg->taken);
+    if (ahead == 0) return EXPECTED;
+    send_answer(leg, get16(frame + 4) << 16 | get16(frame + 6), ahead < 128 ? VNAK : ACK);
+    return REPEATED;
 }
 
 const unsigned char *element(const unsigned char *data, unsigned length, int which, unsigned *size) {

@@ -49,8 +49,8 @@ struct peer {
 unsigned get16(const unsigned char *at);
 void put16(unsigned char *at, unsigned n);
 // Writes the head of a full frame. Returns its length.
-unsigned write_head(unsigned char *octets, unsigned source, unsigned destination, unsigned timestamp, unsigned oseq, unsigned iseq, int type,
-                    int subclass);
+unsigned write_head(unsigned char *octets, unsigned source, unsigned destination, unsigned timestamp, unsigned oseq,
+                    unsigned iseq, int type, int subclass);
 unsigned timestamp_of(const struct leg *leg);
 
 // A leg with a number that has been free for a while, or NULL.
@@ -63,6 +63,16 @@ void send_answer(struct leg *leg, unsigned timestamp, int subclass);
 void send_octets(struct peer *peer, const void *octets, unsigned length);
 void resend(struct leg *leg);
 void acknowledge(struct leg *leg, unsigned next);
+
+// Whether a full frame is a NEW to no call number, or an INVAL.
+int is_new(const unsigned char *frame);
+int is_inval(const unsigned char *frame);
+// Returns the leg with the number to which a full frame goes; NULL if there is none.
+struct leg *leg_of(const struct peer *peer, const unsigned char *frame);
+// A full frame to a leg: of another leg or without a number of its own; repeated or too early, and so answered; or the next.
+enum arrival { ASIDE, REPEATED, EXPECTED };
+// Takes the call number and the acknowledgement of a full frame to a leg. Answers VNAK.
+enum arrival note_arrival(struct leg *leg, const unsigned char *frame);
 // The value of an information element, or NULL.
 const unsigned char *element(const unsigned char *data, unsigned length, int which, unsigned *size);
 

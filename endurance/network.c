@@ -1,8 +1,8 @@
 // A network between two exchanges, on loopback: it loses, repeats, delays and reorders datagrams, by a seed, and counts
 // them by their causes. It ends at SIGTERM, or after the given seconds, and then prints its counts, as one line of JSON.
 //
-// network a=PORT:EXCHANGE_PORT b=PORT:EXCHANGE_PORT [loss=PERCENT] [repeats=PERCENT] [delay_ms=N] [reorder_ms=N] [retry_ms=N] [seed=N]
-//         [seconds=S] [path_kbit=N] [queue_ms=N] [line_s=S] [spoil=digits|media|calls|hangups|again]
+// network a=PORT:EXCHANGE_PORT b=PORT:EXCHANGE_PORT [loss=PERCENT] [repeats=PERCENT] [delay_ms=N] [reorder_ms=N] [retry_ms=N]
+//         [seed=N] [seconds=S] [path_kbit=N] [queue_ms=N] [line_s=S] [spoil=digits|media|calls|hangups|again]
 //
 // A datagram that the exchange at the end `a` sends to PORT of `a` is sent from PORT of `b` to the exchange at the end `b`,
 // and the other way round. With `path_kbit` each of the two directions begins with a line of this number of thousand bits a

@@ -1,5 +1,7 @@
 // The words of this folder's programs, their end, their clock, and their seed (program.h).
 #define _GNU_SOURCE
+#include <errno.h>
+#include <stdio.h>
 #include <stdlib.h>
 #include <string.h>
 #include <time.h>
@@ -15,6 +17,11 @@ static void end_soon(int signal) {
 }
 
 void end_at_sigterm(void) { signal(SIGTERM, end_soon); }
+
+void stop(const char *why) {
+    fprintf(stderr, "%s: %s\n", program_invocation_short_name, why);
+    exit(2);
+}
 
 double now(void) {
     struct timespec time;
@@ -40,4 +47,22 @@ const char *word_of(int count, char **words, const char *name, const char *other
     for (int place = 1; place < count; place++)
         if (strncmp(words[place], name, length) == 0 && words[place][length] == '=') return words[place] + length + 1;
     return otherwise;
+}
+
+void read_words(int count, char **words, void (*set)(const char *name, char *value)) {
+    for (int place = 1; place < count; place++) {
+        char *value = strchr(words[place], '=');
+        if (!value) stop(words[place]);
+        *value++ = 0;
+        set(words[place], value);
+    }
+}
+
+int set_one(const struct number *all, unsigned count, const char *name, const char *value) {
+    for (unsigned place = 0; place < count; place++)
+        if (strcmp(all[place].name, name) == 0) {
+            *all[place].at = (unsigned)strtoul(value, NULL, 10);
+            return 1;
+        }
+    return 0;
 }

@@ -22,7 +22,10 @@ class Restarted:
         self.tools, self.seed, self.folder = tools, seed, tools.folder_of("restart")
         self.ports = spare_ports(5)
         worker, west, east, probe1, probe2 = self.ports
-        peers = {name: {"port": port, "numbers": 64} for name, port in (("west", west), ("east", east), ("probe1", probe1), ("probe2", probe2))}
+        peers = {
+            name: {"port": port, "numbers": 64}
+            for name, port in (("west", west), ("east", east), ("probe1", probe1), ("probe2", probe2))
+        }
         self.plan = plan_of([worker], peers, {"1": "west", "2": "east", "3": "probe1", "4": "probe2"}, retry_ms=500)
         self.exchange = None
         self.started = 0
@@ -37,7 +40,9 @@ class Restarted:
         worker, west, east = self.ports[:3]
         peers = [f"peer={west}:{worker}:1", f"peer={east}:{worker}:2"]
         # No call ends on its own: each is cut by the SIGKILL, except those that are hung up early.
-        talk = {"digits": 400, "digit_ms": 100, "early": 3, "media_ms": 100, "retry_ms": 500, "ping_ms": 1000, "patience": PATIENCE}
+        talk = {
+            "digits": 400, "digit_ms": 100, "early": 3, "media_ms": 100, "retry_ms": 500, "ping_ms": 1000, "patience": PATIENCE
+        }
         return self.tools.start("calls", *peers, "route=0:1", "route=1:0", **talk, at_once=self.tools.some(32), seed=self.seed)
 
     def probe(self):
@@ -65,7 +70,9 @@ def tell_records(report, path, started):
     headers = sum(it[:2] == ["call", "peer"] for it in rows)
     # If a SIGKILL has cut a row, the next start ends its line: such a row is short.
     is_kept = headers == 1 and len(rows) > 1 and short < started and len(rows[-1]) == COLUMNS
-    report.tell("the call records are readable to their last whole line", is_kept, rows=len(rows) - 1, headers=headers, cut_rows=short)
+    report.tell(
+        "the call records are readable to their last whole line", is_kept, rows=len(rows) - 1, headers=headers, cut_rows=short
+    )
 
 
 def tell_traces(report, folder, plan):
@@ -78,7 +85,9 @@ def tell_traces(report, folder, plan):
             text, _, behind = it.read().partition(b"\0")
         lines += text.count(b"\n")
         older += len(behind) > 0
-        found = subprocess.run([*PROGRAM, "replay", plan, f"{folder}/{name}"], capture_output=True, text=True, timeout=10 * PATIENCE)
+        found = subprocess.run(
+            [*PROGRAM, "replay", plan, f"{folder}/{name}"], capture_output=True, text=True, timeout=10 * PATIENCE
+        )
         if found.returncode != 0 or text[-1:] not in (b"", b"\n"):
             refused.append(f"{name}: {found.stdout[-100:]!r}")
     seen = {"files": len(files), "lines": lines, "with_older_lines": older, "refused": refused}
@@ -120,10 +129,17 @@ def run(tools, report, seconds, seed):
     up = sum(it[0] for it in results)
     inval = sum(it[3]["inval"] for it in results)
     after = sum(it[3]["ended"] for it in results)
-    wrong = sum(it[3][name] for it in results for name in ("stuck", "cut", "rejected", "wrong_digits", "lacking_digits", "hangups_twice"))
+    wrong = sum(
+        it[3][name] for it in results for name in ("stuck", "cut", "rejected", "wrong_digits", "lacking_digits", "hangups_twice")
+    )
     invals = sum(it[3]["invals"] for it in results)
-    report.tell("old calls get INVAL", 2 * inval >= up > 0, restarts=len(results), legs_up=up, calls_ended_by_INVAL=inval, invals=invals)
-    report.tell("the load goes on after each restart", min(it[3]["ended"] for it in results) > 0 == wrong, calls_hung_up=after, wrong=wrong)
+    report.tell(
+        "old calls get INVAL", 2 * inval >= up > 0, restarts=len(results), legs_up=up, calls_ended_by_INVAL=inval, invals=invals
+    )
+    report.tell(
+        "the load goes on after each restart", min(it[3]["ended"] for it in results) > 0 == wrong, calls_hung_up=after,
+        wrong=wrong,
+    )
     slowest = max(it[2]["first_answer"] for it in results)
     limit = LATE if seconds is None else SOON
     works = all(it[2]["ended"] == 1 and it[2]["digits_taken"] == 8 for it in results) and slowest <= limit

@@ -95,7 +95,9 @@ def tell_hung_up(report, what, place, west):
     begun = time.monotonic()
     hangup = west.expect(HANGUP)
     elapsed = (time.monotonic() - begun) * 1000
-    report.tell(f"silent {what}: the caller is hung up", hangup is not None, f"after {elapsed:.0f} ms", f"reckoned about {SPENT} ms")
+    report.tell(
+        f"silent {what}: the caller is hung up", hangup is not None, f"after {elapsed:.0f} ms", f"reckoned about {SPENT} ms"
+    )
     west.acknowledge(hangup)
     tell_freed(report, what, place, 0, RETRY)
 
@@ -112,28 +114,34 @@ def after_new_at_the_called(report, place):
     tell_hung_up(report, "when called", place, west)
 
 
-def after_the_first_acknowledgement(report, place):
-    """The called peer acknowledges the NEW and then sends nothing."""
+def acknowledged_call(place):
+    """Places a call whose ACCEPT and NEW are acknowledged. Returns the caller's leg."""
     west = place.west.call(b"200")
     west.acknowledge(west.expect(ACCEPT))
     east, new = place.east.called()
     east.acknowledge(new)
+    return west
+
+
+def after_the_first_acknowledgement(report, place):
+    """The called peer acknowledges the NEW and then sends nothing."""
+    acknowledged_call(place)
     tell_freed(report, "after its ACK of NEW, the caller too", place, PING_MS + SPENT, PING_MS + 2 * SPENT + 2 * RETRY)
 
 
 def after_the_first_acknowledgement_alone(report, place):
     """The same, while the caller continues and answers each PING: only frames end it."""
-    west = place.west.call(b"200")
-    west.acknowledge(west.expect(ACCEPT))
-    east, new = place.east.called()
-    east.acknowledge(new)
+    west = acknowledged_call(place)
     end = time.monotonic() + (3 * SPENT + PING_MS) / 1000
     while time.monotonic() < end:
         if ping := west.expect(PING, 0.2):
             west.take(ping)
             west.send(PONG)
     found = sorted(place.legs().values())
-    report.tell("silent after its ACK of NEW, the caller waits: both numbers are kept", found == [("east", "Waiting"), ("west", "Linked")], found)
+    report.tell(
+        "silent after its ACK of NEW, the caller waits: both numbers are kept",
+        found == [("east", "Waiting"), ("west", "Linked")], found,
+    )
     west.send(HANGUP)
     tell_freed(report, "after its ACK of NEW, once the caller hangs up", place, SPENT, SPENT + RETRY)
 

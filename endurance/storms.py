@@ -144,10 +144,16 @@ class Sums:
         digits, offers, ended = (self.counts(it) for it in (DIGITS, OFFERS, ENDED))
         is_kept = sum(digits.values()) == 0 < min(self.taken)
         left_out = self.seen["left_out_digits"]
-        report.tell("each digit is taken once and in order in each storm", is_kept, digits_taken=sum(self.taken), **digits, left_out_as_a_call_is_cut=left_out)
+        report.tell(
+            "each digit is taken once and in order in each storm", is_kept, digits_taken=sum(self.taken), **digits,
+            left_out_as_a_call_is_cut=left_out,
+        )
         report.tell("each call is offered once and hung up once", not any(offers.values()), **offers)
         unknown = self.why.pop("unknown")
-        report.tell("exchanges end calls only for reasons that are in their records", not unknown, **ended, **self.why, without_one=unknown)
+        report.tell(
+            "exchanges end calls only for reasons that are in their records", not unknown, **ended, **self.why,
+            without_one=unknown,
+        )
         self.tell_vnaks(report)
 
     def tell_vnaks(self, report):

@@ -69,8 +69,14 @@ def tell_calls(report, seen):
     offers = {name: seen[name] for name in ("offered_twice", "misrouted")}
     report.tell("each call is offered once, where it leads to", not any(offers.values()), **offers)
     digits = {name: seen[name] for name in ("digits_sent", "digits_taken", "wrong_digits", "lacking_digits")}
-    report.tell("each digit is taken once and in order", seen["digits_taken"] > 0 and seen["wrong_digits"] + seen["lacking_digits"] == 0, **digits)
-    hangups = {name: seen[name] for name in ("hung_up_by_caller", "hung_up_by_called", "hangups_missing", "hangups_twice", "hangups_back")}
+    report.tell(
+        "each digit is taken once and in order", seen["digits_taken"] > 0 and seen["wrong_digits"] + seen["lacking_digits"] == 0,
+        **digits,
+    )
+    hangups = {
+        name: seen[name]
+        for name in ("hung_up_by_caller", "hung_up_by_called", "hangups_missing", "hangups_twice", "hangups_back")
+    }
     wrong = seen["hangups_missing"] + seen["hangups_twice"] + seen["hangups_back"]
     from_both = seen["placed"] < 20 or seen["hung_up_by_caller"] * seen["hung_up_by_called"] > 0
     report.tell("each call is hung up once at its far end", wrong == 0 and from_both, **hangups)
@@ -95,8 +101,13 @@ def run(tools, report, seconds, seed, spoil=None):
     finally:
         sites.kill()
     tell_calls(report, seen)
-    report.tell("challenges are answered", seen["challenged"] > 0 == seen["bad_answers"], challenged=seen["challenged"], bad_answers=seen["bad_answers"])
+    report.tell(
+        "challenges are answered", seen["challenged"] > 0 == seen["bad_answers"], challenged=seen["challenged"],
+        bad_answers=seen["bad_answers"],
+    )
     tell_media(report, seen)
     for name, (status, lines) in zip(("the west", "the east"), printed):
         tell_accounts(report, name, status, lines)
-    report.tell("the network was bad", network["lost"] * network["repeated"] * network["by_timer"] * network["for_vnak"] > 0, **network)
+    report.tell(
+        "the network was bad", network["lost"] * network["repeated"] * network["by_timer"] * network["for_vnak"] > 0, **network
+    )

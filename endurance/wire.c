@@ -5,6 +5,7 @@
 #include <arpa/inet.h>
 #include <linux/sock_diag.h>
 #include <stdio.h>
+#include <stdlib.h>
 #include <string.h>
 #include <sys/socket.h>
 #include <time.h>
@@ -21,6 +22,14 @@ int wire_of(unsigned port, unsigned exchange) {
     setsockopt(wire, SOL_SOCKET, SO_TIMESTAMPNS, &yes, sizeof yes);
     if (bind(wire, (struct sockaddr *)&at, sizeof at) != 0 || connect(wire, (struct sockaddr *)&to, sizeof to) != 0) return -1;
     return wire;
+}
+
+int read_peer(struct peer *peer, int place, char *text) {
+    char *port = strtok(text, ":"), *exchange = strtok(NULL, ":");
+    peer->prefix = strtok(NULL, ":"), peer->secret = strtok(NULL, "");
+    if (!peer->prefix) return 0;
+    peer->wire = wire_of((unsigned)atoi(port), (unsigned)atoi(exchange)), peer->place = place;
+    return 1;
 }
 
 static long long ns_of(struct timespec time) { return time.tv_sec * 1000000000ll + time.tv_nsec; }

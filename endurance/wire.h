@@ -7,6 +7,8 @@
 // Returns a socket with this port, connected to that of an exchange; -1 if the port can't be had. It has much room, and its
 // datagrams have the moments at which they came.
 int wire_of(unsigned port, unsigned exchange);
+// Reads PORT:EXCHANGE_PORT:PREFIX[:SECRET] into the peer at a place, with its socket. Returns false if a part is missing.
+int read_peer(struct peer *peer, int place, char *text);
 // Receives the available datagrams of a peer, a batch at most. Gives each to `take`, with the moment at which the system had
 // it. Returns whether there were any.
 int receive(struct peer *peer, void (*take)(struct peer *peer, const unsigned char *octets, unsigned length, long long moment));

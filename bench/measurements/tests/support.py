@@ -1,5 +1,6 @@
 """Shared by the tests: finds the package, and writes results."""
 import sys
+import tempfile
 from pathlib import Path
 
 TOP = Path(__file__).resolve().parents[3]
@@ -17,6 +18,13 @@ FACTS = {
     "rounds": 3,
     "seconds": 0.5,
 }
+
+
+def room_of(test):
+    """Returns a folder that lasts as long as a test."""
+    room = tempfile.TemporaryDirectory()
+    test.addCleanup(room.cleanup)
+    return Path(room.name)
 
 
 def write_results(folder, name, rows, **facts):

@@ -11,7 +11,7 @@ from pathlib import Path
 from types import SimpleNamespace
 from unittest import mock
 
-from support import TOP, write_results
+from support import TOP, room_of, write_results
 from measurements import __main__ as command
 from measurements.results import read
 
@@ -85,9 +85,7 @@ class Copies(unittest.TestCase):
     """The program in a copy of bench/ and docs/ alone, whose pages it reads."""
 
     def setUp(self):
-        room = tempfile.TemporaryDirectory()
-        self.addCleanup(room.cleanup)
-        self.top = Path(room.name)
+        self.top = room_of(self)
         for name in ("bench", "docs"):
             shutil.copytree(TOP / name, self.top / name, ignore=shutil.ignore_patterns("out", "__pycache__"))
 

@@ -6,7 +6,7 @@ import tempfile
 import unittest
 from pathlib import Path
 
-from support import write_results
+from support import room_of, write_results
 from measurements import results
 from measurements.results import Figure, Results, Unmeasured
 
@@ -53,9 +53,7 @@ class Trees(unittest.TestCase):
     """The tree of crates/, in a repository with two files."""
 
     def setUp(self):
-        room = tempfile.TemporaryDirectory()
-        self.addCleanup(room.cleanup)
-        self.top = Path(room.name)
+        self.top = room_of(self)
         (self.top / "crates").mkdir()
         (self.top / "crates/a").write_bytes(b"x\n")
         (self.top / "page").write_bytes(b"y\n")
@@ -96,9 +94,7 @@ class Trees(unittest.TestCase):
 
 class Files(unittest.TestCase):
     def setUp(self):
-        room = tempfile.TemporaryDirectory()
-        self.addCleanup(room.cleanup)
-        self.folder = room.name
+        self.folder = room_of(self)
 
     def test_text(self):
         found = Results("speed", {"rounds": 2})

@@ -1,8 +1,7 @@
 """Tests of security.py: which result is in which cell; and that it has the floods of the scene."""
-import tempfile
 import unittest
 
-from support import FACTS
+from support import FACTS, room_of
 import floods
 from measurements import security
 from measurements.results import Results, Unmeasured
@@ -10,9 +9,7 @@ from measurements.results import Results, Unmeasured
 
 class Tables(unittest.TestCase):
     def setUp(self):
-        room = tempfile.TemporaryDirectory()
-        self.addCleanup(room.cleanup)
-        self.folder = room.name
+        self.folder = room_of(self)
 
     def lines(self):
         return security.parts(self.folder)["floods"]().splitlines()
