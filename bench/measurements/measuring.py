@@ -6,7 +6,7 @@ from iax_test.waits import Failed
 
 from . import results
 
-# The differences of the relay's own runs from which a machine is too busy.
+# The spread of the relay's own runs above which the machine is too busy.
 MOST_SPREAD = 0.15
 
 
@@ -36,11 +36,11 @@ def begun(name, given, **facts):
 
 
 def note_spread(found, series, what="the machine"):
-    """Notes how far runs of the relay differ, the greatest of all such notes, and warns if that is too far."""
+    """Keeps the greatest spread of the relay's runs so far, and warns if this one is too great."""
     spread = results.spread_of(series)
     found.facts["relay_spread"] = max(spread, found.facts.get("relay_spread", 0))
     if spread > MOST_SPREAD:
-        print(f"{what} is too busy to believe: the relay's runs differ by {spread:.0%}")
+        print(f"{what} is too busy for figures to count: the relay's runs differ by {spread:.0%}")
 
 
 def write(found, given):

@@ -1,8 +1,8 @@
 """chain [--beside DIR | --time CRATE ..]: prints the seconds of processor time that each crate's proof took on this machine, and
 the chain of crates that bounds the time of `rt ci` on any number of processors.
 
-The last line is in seconds of this machine, and in proofs of `call_auth`, which is the yardstick: a quick machine takes 13
-seconds for it. A crate that has changed since it was proved is marked by `*`.
+The last line is in seconds of this machine, and in proofs of `call_auth`, the yardstick. A crate that has changed since it was
+proved is marked by `*`.
 
 --beside DIR  prints only the last line. Runs while `rt ci` proves crates in this checkout: DIR/ci has the output of that so
               far, and DIR/ended exists once it has ended. The seconds of what is proved are kept.

@@ -1,8 +1,9 @@
 """house [--places | --lower]: counts the repository, and fails if it has more of something than bounds.toml allows.
 
 It prints a row for each crate and for each folder beside the crates: lines of source, of specs and of proofs, those of proofs
-that serve laws alone (`laws`), lines of proofs for each line of source without those and with them, clauses (`ensures`) and
-functions; the longest file, body of a function, line and list of parameters; and pairs of places that say the same (`twins`).
+that serve laws alone (`of laws`), lines of proofs for each line of source without those and with them, clauses (`ensures`)
+and functions; the longest file, body of a function, line and list of parameters; and pairs of places that say the same
+(`pairs`; their bound is `twins`).
 Then it prints each count that is above its bound, and each bound that is above that of the commit before without a new `why`.
 The exit status is 1 if there is one.
 
