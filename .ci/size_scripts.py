@@ -170,7 +170,7 @@ def five_thousand_digits(folder, program):
 
 
 def all_end_at_once(folder, program):
-    """So many legs whose REJECTs nobody acknowledges end at one tick: each is retired, in the order of their numbers. Of the
+    """Hundreds of legs whose REJECTs nobody acknowledges end at one tick: each is retired, in the order of their numbers. Of the
     REJECTs that are sent again at one tick the outbox takes 256."""
     count, room = 512, 256
     head = "format = 1\nretry_ms = 1000\nmax_retries = 1\nping_ms = 0"
